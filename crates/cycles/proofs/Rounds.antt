@@ -84,17 +84,18 @@ onward-within n i (suc m) h = onward-within n (next n i) m (next-within n i (ome
 
 -- a whole round comes back to its place, and adds up to the same from every place
 
-onward-zero : (n m : ℕ) → m < n → onward n 0 m ≡ m
-onward-zero n zero h = refl
-onward-zero n (suc m) h = onward-next n 0 m ∙ ap (next n) (onward-zero n m (omega arith)) ∙ next-on n m h
+-- from the first place, as far as one round goes
+pub onward-first : (n m : ℕ) → m < n → onward n 0 m ≡ m
+onward-first n zero h = refl
+onward-first n (suc m) h = onward-next n 0 m ∙ ap (next n) (onward-first n m (omega arith)) ∙ next-on n m h
 
-met-zero : (n : ℕ) (f : ℕ → ℕ) (m : ℕ) → m ≤ n → met n f 0 m ≡ sum f m
-met-zero n f zero h = refl
-met-zero n f (suc m) h =
-    met-snoc n f 0 m ∙ omega (arith, met-zero n f m (omega arith), ap f (onward-zero n m h))
+pub met-first : (n : ℕ) (f : ℕ → ℕ) (m : ℕ) → m ≤ n → met n f 0 m ≡ sum f m
+met-first n f zero h = refl
+met-first n f (suc m) h =
+    met-snoc n f 0 m ∙ omega (arith, met-first n f m (omega arith), ap f (onward-first n m h))
 
 pub onward-round : (n i : ℕ) → i < n → onward n i n ≡ i
-onward-round (suc n) zero h = onward-next (suc n) 0 n ∙ ap (next (suc n)) (onward-zero (suc n) n (omega arith)) ∙ next-last (suc n) n (omega arith)
+onward-round (suc n) zero h = onward-next (suc n) 0 n ∙ ap (next (suc n)) (onward-first (suc n) n (omega arith)) ∙ next-last (suc n) n (omega arith)
 onward-round (suc n) (suc i) h =
     let e : next (suc n) i ≡ suc i = next-on (suc n) i h in
     let before : onward (suc n) i (suc n) ≡ i = onward-round (suc n) i (omega arith) in
@@ -102,7 +103,7 @@ onward-round (suc n) (suc i) h =
 onward-round zero i h = omega arith
 
 pub met-round : (n : ℕ) (f : ℕ → ℕ) (i : ℕ) → i < n → met n f i n ≡ sum f n
-met-round n f zero h = met-zero n f n (omega arith)
+met-round n f zero h = met-first n f n (omega arith)
 met-round n f (suc i) h =
     let e : next n i ≡ suc i = next-on n i h in
     let before : met n f i n ≡ sum f n = met-round n f i (omega arith) in
@@ -132,3 +133,17 @@ top-split n f m h = ap (λ k. top (λ i. met n f i k) n) (sym (div-add-mod' m n)
 -- the run one place further on: the first place goes, one place comes at the end
 pub met-slides : (n : ℕ) (f : ℕ → ℕ) (i m : ℕ) → f i + met n f (next n i) m ≡ met n f i m + f (onward n i m)
 met-slides n f i m = met-snoc n f i m
+
+-- functions that agree on the places of the cycle
+pub sum-same : (f g : ℕ → ℕ) (n : ℕ) → ((p : ℕ) → p < n → f p ≡ g p) → sum f n ≡ sum g n
+sum-same f g zero h = refl
+sum-same f g (suc n) h = omega (arith, sum-same f g n (λ p l. h p (omega arith)), h n (omega arith))
+
+pub met-same : (n : ℕ) (f g : ℕ → ℕ) (i m : ℕ) → ((p : ℕ) → p < n → f p ≡ g p) → i < n → met n f i m ≡ met n g i m
+met-same n f g i zero h l = refl
+met-same n f g i (suc m) h l = omega (arith, h i l, met-same n f g (next n i) m h (next-within n i (omega arith)))
+
+pub top-same : (f g : ℕ → ℕ) (n : ℕ) → ((p : ℕ) → p < n → f p ≡ g p) → top f n ≡ top g n
+top-same f g zero h = refl
+top-same f g (suc n) h = omega (arith, top-same f g n (λ p l. h p (omega arith)), h n (omega arith))
+

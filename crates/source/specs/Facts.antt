@@ -10,6 +10,10 @@ use lib.Dec.{leb}
 abbrev pub isPart : ℕ → ℕ → Bool
 isPart n k = leb 1 k && leb k n
 
+-- an offer of u units to part k is taken exactly when k is a part and u is from 1 to its allowance for one tick
+abbrev pub offerable : ℕ → (ℕ → ℕ → ℕ) → ℕ → ℕ → Bool
+offerable n a k u = isPart n k && (leb 1 u && leb u (a k 1))
+
 -- with n parts, demand d and allowance a: since an allowance is never above its demand, it too is 0 over no ticks and
 -- for a number that is no part
 pub record Sound (n : ℕ) (d a : ℕ → ℕ → ℕ) : Type 0 where

@@ -4,12 +4,15 @@ ghost use mathlib.Core.Path.{_≡_};
 ghost use mathlib.Core.Bool.{true, false, cond, _&&_};
 ghost use lib.Dec.{leb};
 ghost use Rattle.std.specs.declared.option.Option.the-variants.{Some, None};
-ghost use Rattle.source.specs.Facts.{isPart, Sound, Kept, Taken, Ticked, Driven};
+ghost use Rattle.source.specs.Facts.{isPart, offerable, Sound, Kept, Taken, Ticked, Driven};
 
 pub mod pair;
 
 // The longest window that a source is asked about.
 pub const LONGEST: u32 = 1_000_000;
+
+// The most parts that a source has.
+pub const MOST_PARTS: u32 = 1000;
 
 // Work that goes before all tasks, in parts that are numbered from 1.
 //
@@ -50,7 +53,7 @@ pub trait Gate: Source {
     // Offers units to a part. They are taken, and the answer is true, exactly when there is such a part and they are
     // from 1 to its allowance for one tick; else nothing changes.
     fn offer(&mut self, part: u32, units: u64) -> bool
-        ensures answer { λ r. ⌜ r ≡ (isPart (Self·Source .parts (now (self .entry))) part && (leb 1 units && leb units (Self·Source .allowed (now (self .entry)) part 1))) ⌝ }
+        ensures answer { λ r. ⌜ r ≡ offerable (Self·Source .parts (now (self .entry))) (Self·Source .allowed (now (self .entry))) part units ⌝ }
         ensures refused { λ r. ⌜ (r ≡ false → now (self .exit) ≡ now (self .entry)) ⌝ }
         ensures takes { λ r. ⌜ (r ≡ true → takes (now (self .entry)) part units (now (self .exit))) ⌝ }
         ensures taken { λ r. ⌜ (r ≡ true → Taken (Self·Source .allowed (now (self .entry))) part units (Self·Source .allowed (now (self .exit)))) ⌝ }

@@ -1,5 +1,6 @@
 // Two sources, or two gates, side by side: again one.
 use crate::Gate;
+use crate::MOST_PARTS;
 use crate::Source;
 ghost use Prim.Native.Nat.{ℕ, _-_, _≤_};
 ghost use mathlib.Core.Path.{_≡_};
@@ -16,9 +17,6 @@ pub struct Pair<A, B> {
     pub left: A,
     pub right: B,
 }
-
-// No part of a pair has a higher number.
-pub const MOST_PARTS: u32 = 1000;
 
 impl<A, B> Pair<A, B> {
     pub fn new(left: A, right: B) -> Pair<A, B>

@@ -1,0 +1,4 @@
+pub mod Makings
+pub mod Runs
+pub mod Together
+pub mod Rows

@@ -1,0 +1,4 @@
+pub mod Makes
+pub mod Pace
+pub mod Runs
+pub mod Tables
