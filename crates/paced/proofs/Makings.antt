@@ -7,12 +7,12 @@ use native.Mathlib.Omega.{arith}
 use lib.ListN.{length, take, drop, set, getD, replicate}
 use Rattle.std.proofs.shelf.Lists.{at-drop-more, drop-all, take-more, set-at, length-take-le, length-append, length-replicate}
 use lib.Dec.{leb, ltb}
-use Rattle.std.proofs.shelf.Tests.{leb-true, ltb-true, and-parts, cases-bool}
+use Rattle.std.proofs.shelf.Tests.{leb-true, ltb-true, lt-ltb, and-parts, cond-true}
 use Rattle.std.specs.declared.option.Option.{Option}
 use Rattle.std.specs.declared.option.Option.the-variants.{Some, None}
 use Rattle.refusal.specs.declared.Fault.the-variants.{TooMany, OutOfRange, Misfit}
 use Rattle.paced.specs.Pace.{Fit}
-use Rattle.paced.specs.Makes.{inRange, allInRange, given-right, fault-of, fresh}
+use Rattle.paced.specs.Makes.{inRange, allInRange, given-right, fault-of, fresh, adding}
 
 -- the costs are looked at one after another
 pub range-first : (xs : List ℕ) (i : ℕ) → i < length xs → allInRange (drop i xs) ≡ (inRange (getD xs i 0) && allInRange (drop (i + 1) xs))
@@ -82,3 +82,7 @@ fresh-fit t j xs e =
 
     held : length (xs ++ replicate (8 - length xs) 0) ≡ 8
     held = length-append xs (replicate (8 - length xs) 0) ∙ ap (λ n. length xs + n) (length-replicate (8 - length xs) 0) ∙ omega (arith, few)
+
+-- where a small table has room, a larger one finds the same fault
+pub adding-same : (most more n t j : ℕ) (xs : List ℕ) → n < most → n < more → adding most n t j xs ≡ adding more n t j xs
+adding-same most more n t j xs h i = cond-true (ltb n most) (fault-of t j xs) (Some TooMany) (lt-ltb n most h) ∙ sym (cond-true (ltb n more) (fault-of t j xs) (Some TooMany) (lt-ltb n more i))

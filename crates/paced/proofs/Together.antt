@@ -4,11 +4,12 @@ use mathlib.Core.Path.{_≡_, refl, sym, ap, _∙_, subst, fun-ext}
 use mathlib.Core.Bool.{Bool, true, false, cond, _&&_}
 use mathlib.Core.Logic.{_⊎_, inl, inr}
 use native.Mathlib.Omega.{arith}
-use mathlib.Core.List.{List, map}
-use lib.ListN.{length}
+use mathlib.Core.List.{List, map, _++_, append-nil}
+use lib.ListN.{length, set, take, drop}
 use lib.Seq.{getD-set-same, getD-set-other}
 use lib.Dec.{leb}
-use Rattle.std.proofs.shelf.Lists.{getD-map}
+use Rattle.std.proofs.shelf.Lists.{getD-map, getD-default, take-all, drop-all, length-append, length-map, length-take-le, length-drop}
+use Rattle.std.proofs.shelf.Edits.{map-over-more}
 use Rattle.std.proofs.shelf.Tests.{leb-true, leb-false, cond-true, cond-false, cond-both, cases-eq, cases-bool, and-parts, and-from, le-leb}
 use Rattle.std.proofs.shelf.Ways.{tells}
 use Rattle.source.specs.Facts.{isPart, offerable, Sound, Kept, Taken, Ticked}
@@ -137,3 +138,21 @@ offered-at n rows k u low high some within =
   where
     part : isPart n k ≡ true
     part = and-from (leb 1 k) (leb k n) (le-leb 1 k low) (le-leb k n high)
+
+-- what holds of each row, after one was written, and after all have ticked
+pub set-every : (P : Row → Type 0) (rows : List Row) (k : ℕ) (v : Row) (m : ℕ) → k < length rows → ((i : ℕ) → i < m → (i ≡ k → ⊥) → P (rowAt rows i)) → P v → (i : ℕ) → i < m → P (rowAt (set rows k v) i)
+set-every P rows k v m h others here i l =
+    elim (cases-eq i k) [ inl e ↦ subst P (sym (ap (rowAt (set rows k v)) e ∙ getD-set-same rows k v blank h)) here | inr ne ↦ subst P (sym (getD-set-other rows k i v blank ne)) (others i l ne) ]
+
+pub later-every : (P : Row → Type 0) (rows : List Row) (m : ℕ) → m ≤ length rows → ((i : ℕ) → i < m → P (later (rowAt rows i))) → (i : ℕ) → i < m → P (rowAt (map later rows) i)
+later-every P rows m long each i l = subst P (sym (getD-map later rows i blank blank (omega arith))) (each i l)
+
+-- the rows are ticked one after another: row i of those that a loop has come to, and all of them at its end
+pub ticks-on : (xs ys : List Row) (i : ℕ) → i < length xs → ys ≡ map later (take i xs) ++ drop i xs → set ys i (later (rowAt ys i)) ≡ map later (take (i + 1) xs) ++ drop (i + 1) xs
+ticks-on xs ys i h e = map-over-more later xs ys i (rowAt ys i) h e (getD-default ys i blank (rowAt ys i) long)
+  where
+    long : i < length ys
+    long = omega (arith, ap length e, length-append (map later (take i xs)) (drop i xs), length-map (take i xs) later, length-take-le i xs (omega arith), length-drop i xs)
+
+pub ticks-all : (xs ys : List Row) (i : ℕ) → length xs ≤ i → ys ≡ map later (take i xs) ++ drop i xs → ys ≡ map later xs
+ticks-all xs ys i h e = e ∙ (λ j. map later (take-all i xs h j) ++ drop-all i xs h j) ∙ append-nil (map later xs)

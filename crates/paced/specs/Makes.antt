@@ -30,3 +30,11 @@ fault-of t j costs = cond (leb (length costs) 8) (cond (given-right t j costs) (
 -- the part made of them: level and place are 0
 abbrev pub fresh : ℕ → ℕ → List ℕ → Row
 fresh t j costs = record { period = t; jitter = j; count = length costs; costs = costs ++ replicate (8 - length costs) 0; level = 0; place = 0 }
+
+-- what is wrong with one more part in a table of n that has room for `most`
+abbrev pub adding : ℕ → ℕ → ℕ → ℕ → List ℕ → Option Fault
+adding most n t j costs = cond (ltb n most) (fault-of t j costs) (Some TooMany)
+
+-- a place of a table that has no part
+abbrev pub unused : Row
+unused = record { period = 0; jitter = 0; count = 0; costs = replicate 8 0; level = 0; place = 0 }

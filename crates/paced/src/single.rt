@@ -33,7 +33,7 @@ impl Paced {
     {
         match Row::new(period, jitter, costs) {
             Ok(row) => Ok(Paced { row }),
-            Err(fault) => Err(Refusal::new(fault, 0, 0)),
+            Err(fault) => Err(Refusal::plain(fault)),
         }
     }
 }

@@ -111,6 +111,15 @@ pub struct Refusal {
 }
 
 impl Refusal {
+    // The refusal of a call that is about no line and no task.
+    pub fn plain(fault: Fault) -> Refusal
+        ensures fault { λ r. ⌜ r .fault ≡ fault ⌝ }
+        ensures line { λ r. ⌜ r .line ≡ 0 ⌝ }
+        ensures task { λ r. ⌜ r .task ≡ 0 ⌝ }
+    {
+        Refusal { fault, line: 0, task: 0 }
+    }
+
     // The refusal for a fault that a line and a task are at hand for, of which it keeps those that the fault has.
     pub fn new(fault: Fault, line: u32, task: u32) -> Refusal
         ensures fault { λ r. ⌜ r .fault ≡ fault ⌝ }
