@@ -5,6 +5,7 @@ use mathlib.Core.Bool.{Bool, true, false, cond}
 use mathlib.Core.Logic.{_⊎_, inl, inr}
 use native.Mathlib.Omega.{arith}
 use native.Mathlib.Nat.{zero-add, suc-add, div-add-mod'}
+use native.Mathlib.Numerals.{add-one}
 use lib.Dec.{ltb, eqb}
 use Rattle.std.proofs.shelf.Tests.{cases-lt, lt-ltb, le-ltb}
 use Rattle.std.proofs.shelf.Ways.{tells}
@@ -44,6 +45,13 @@ sum-least f (suc n) b h =
 pub sum-rises : (f : ℕ → ℕ) (m n : ℕ) → m ≤ n → sum f m ≤ sum f n
 sum-rises f m zero h = let e : m ≡ 0 = omega arith in subst (λ k. sum f k ≤ 0) (sym e) (omega arith)
 sum-rises f m (suc n) h = elim (cases-lt m (suc n)) [ inl l ↦ omega (arith, sum-rises f m n (omega arith)) | inr g ↦ (let e : m ≡ suc n = omega arith in subst (λ k. sum f k ≤ sum f n + f n) (sym e) (omega arith)) ]
+
+-- one place more, as a loop has it
+pub sum-on : (f : ℕ → ℕ) (i : ℕ) → sum f (i + 1) ≡ sum f i + f i
+sum-on f i = ap (sum f) (add-one i)
+
+pub top-on : (f : ℕ → ℕ) (i : ℕ) → top f (i + 1) ≡ max (top f i) (f i)
+top-on f i = ap (top f) (add-one i)
 
 -- round the cycle
 
@@ -146,4 +154,3 @@ met-same n f g i (suc m) h l = omega (arith, h i l, met-same n f g (next n i) m 
 pub top-same : (f g : ℕ → ℕ) (n : ℕ) → ((p : ℕ) → p < n → f p ≡ g p) → top f n ≡ top g n
 top-same f g zero h = refl
 top-same f g (suc n) h = omega (arith, top-same f g n (λ p l. h p (omega arith)), h n (omega arith))
-

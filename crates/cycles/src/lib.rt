@@ -6,5 +6,9 @@ ghost use Rattle.cycles.specs.Round.{next};
 pub fn step(size: u32, place: u32) -> u32
     ensures { λ r. ⌜ r ≡ next size place ⌝ }
 {
-    if place < size && place + 1 < size { place + 1 } else { 0 }
+    if place < size && place + 1 < size {
+        place + 1
+    } else {
+        0
+    }
 }

@@ -56,7 +56,7 @@ fresh-fit t j xs e =
     record {
       paces = (leb-true 1 t (t-in .0), leb-true t 1000000 (t-in .1), ltb-true j t below);
       places = (held, few, leb-true 1 (length xs) (some .0), omega arith);
-      costs = padded-small xs (8 - length xs) (range-at xs (some .1))
+      costs = padded-small xs (8 - length xs) (range-at xs (some .1));
     }
   where
     after-length : (leb (length xs) 8 ≡ true) × (cond (given-right t j xs) (cond (ltb j t) None (Some Misfit)) (Some OutOfRange) ≡ None)

@@ -73,10 +73,10 @@ given-within r u zero fit p q h = omega arith
 given-within r u (suc l) fit p q h =
     cond-both (leb (r .level + r .period) (r .jitter + l)) (run r f (arrivals r (r .level + r .period) (suc l))) 0 (λ x. u + x ≤ allowance r (suc l))
     (λ e. (let room : r .level + r .period ≤ r .jitter + l = leb-true (r .level + r .period) (r .jitter + l) e in
-        let less : r .jitter + l - (r .level + r .period) ≡ r .jitter + l - r .level - r .period = omega arith in
-        let one-less : (r .jitter + l - r .level) / r .period ≡ (r .jitter + l - r .level - r .period) / r .period + 1 = div-eq-sub-div (fit .paces .0) (omega arith) in
-        let same : run r f (arrivals r (r .level + r .period) (suc l)) ≡ run r f ((r .jitter + l - r .level) / r .period) = ap (λ k. run r f (k / r .period + 1)) less ∙ ap (run r f) (sym one-less) in
-        omega (arith, next-cost, open-allowance r l low)))
+    let less : r .jitter + l - (r .level + r .period) ≡ r .jitter + l - r .level - r .period = omega arith in
+    let one-less : (r .jitter + l - r .level) / r .period ≡ (r .jitter + l - r .level - r .period) / r .period + 1 = div-eq-sub-div (fit .paces .0) (omega arith) in
+    let same : run r f (arrivals r (r .level + r .period) (suc l)) ≡ run r f ((r .jitter + l - r .level) / r .period) = ap (λ k. run r f (k / r .period + 1)) less ∙ ap (run r f) (sym one-less) in
+    omega (arith, next-cost, open-allowance r l low)))
     (λ _. omega (arith, next-cost, open-allowance r l low))
   where
     f : ℕ

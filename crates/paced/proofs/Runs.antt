@@ -4,21 +4,13 @@ use mathlib.Core.Path.{_≡_, refl, sym, ap, _∙_, subst}
 use mathlib.Core.Bool.{Bool, true, false, cond}
 use mathlib.Core.List.{List, [], _∷_}
 use native.Mathlib.Omega.{arith}
-use native.Mathlib.Numerals.{add-one}
 use lib.ListN.{length, getD, take}
 use Rattle.std.proofs.shelf.Lists.{length-take-le, getD-take}
 use lib.Dec.{ltb}
 use Rattle.std.proofs.shelf.Tests.{lt-ltb}
 use Rattle.cycles.specs.Round.{sum, top, next, met, onward}
-use Rattle.cycles.proofs.Rounds.{met-slides, met-least, onward-next, onward-within, sum-same, met-same, top-same}
+use Rattle.cycles.proofs.Rounds.{top-on, met-slides, met-least, onward-next, onward-within, sum-same, met-same, top-same}
 use Rattle.paced.specs.Runs.{at, largest, largest-from}
-
--- one place more
-pub sum-on : (f : ℕ → ℕ) (i : ℕ) → sum f (i + 1) ≡ sum f i + f i
-sum-on f i = ap (sum f) (add-one i)
-
-pub top-on : (f : ℕ → ℕ) (i : ℕ) → top f (i + 1) ≡ max (top f i) (f i)
-top-on f i = ap (top f) (add-one i)
 
 -- place i of a cycle of n, where a loop over the places stands; after the last it is the first again
 abbrev pub turn : ℕ → ℕ → ℕ

@@ -1,18 +1,17 @@
 -- n rows of paced work, kept anyhow, are a source and a gate of n parts.
 use Prim.Native.Nat.{ℕ, zero, suc, _+_, _-_, _≤_, _<_}
 use mathlib.Core.Path.{_≡_, refl, sym, ap, _∙_, subst, fun-ext}
-use mathlib.Core.Bool.{Bool, true, false, cond, _&&_}
+use mathlib.Core.Bool.{true, cond}
 use mathlib.Core.Logic.{_⊎_, inl, inr}
 use native.Mathlib.Omega.{arith}
 use mathlib.Core.List.{List, map, _++_, append-nil}
 use lib.ListN.{length, set, take, drop}
 use lib.Seq.{getD-set-same, getD-set-other}
-use lib.Dec.{leb}
 use Rattle.std.proofs.shelf.Lists.{getD-map, getD-default, take-all, drop-all, length-append, length-map, length-take-le, length-drop}
 use Rattle.std.proofs.shelf.Edits.{map-over-more}
-use Rattle.std.proofs.shelf.Tests.{leb-true, leb-false, cond-true, cond-false, cond-both, cases-eq, cases-bool, and-parts, and-from, le-leb}
-use Rattle.std.proofs.shelf.Ways.{tells}
+use Rattle.std.proofs.shelf.Tests.{cond-true, cond-false, cases-eq}
 use Rattle.source.specs.Facts.{isPart, offerable, Sound, Kept, Taken, Ticked}
+use Rattle.source.proofs.Parts.{part-bounds, part-from, offerable-parts, offerable-from, by-part}
 use Rattle.paced.specs.Pace.{demand, allowance, given, later, blank, Fit}
 use Rattle.paced.specs.Tables.{rowAt, demands, allowances, only, Gives, GivesOne, Passes}
 use Rattle.paced.specs.declared.row.Row.{Row}
@@ -20,19 +19,7 @@ use Rattle.paced.proofs.Rows.{demand-none, demand-rises, demand-small, allowan
 
 -- a part's place in the table
 place-of : (n k : ℕ) → isPart n k ≡ true → (1 ≤ k) × (k - 1 < n)
-place-of n k e =
-    let p = and-parts (leb 1 k) (leb k n) e in
-    let low : 1 ≤ k = leb-true 1 k (p .0) in
-    let high : k ≤ n = leb-true k n (p .1) in
-    (low, omega arith)
-
--- for a part what its row has, for any other number 0
-by-part : (R : ℕ → ℕ → Type 0) (n k x y : ℕ) → (isPart n k ≡ true → R x y) → R 0 0 → R (cond (isPart n k) x 0) (cond (isPart n k) y 0)
-by-part R n k x y part none = go (isPart n k) refl
-  where
-    go : (b : Bool) → isPart n k ≡ b → R (cond b x 0) (cond b y 0)
-    go true e = part e
-    go false e = none
+place-of n k e = let p = part-bounds n k e in (p .0, omega arith)
 
 module _ (n : ℕ) (rows : ℕ → Row) (few : n ≤ 1000) (fits : (i : ℕ) → i < n → Fit (rows i)) where
   fit : (k : ℕ) → isPart n k ≡ true → Fit (rows (k - 1))
@@ -46,7 +33,7 @@ module _ (n : ℕ) (rows : ℕ → Row) (few : n ≤ 1000) (fits : (i : ℕ) →
         outside = λ k l e. cond-false (isPart n k) (demand (rows (k - 1)) l) 0 e;
         rises = λ k l m h. by-part (λ x y. x ≤ y) n k (demand (rows (k - 1)) l) (demand (rows (k - 1)) m) (λ e. demand-rises (rows (k - 1)) l m (fit k e) h) (omega arith);
         small = λ k l h. by-part (λ x y. x ≤ 10000000000000) n k (demand (rows (k - 1)) l) 0 (λ e. omega (arith, demand-small (rows (k - 1)) l (fit k e) h)) (omega arith);
-        within = λ k l. by-part (λ x y. x ≤ y) n k (allowance (rows (k - 1)) l) (demand (rows (k - 1)) l) (λ e. allowance-within (rows (k - 1)) l (fit k e)) (omega arith)
+        within = λ k l. by-part (λ x y. x ≤ y) n k (allowance (rows (k - 1)) l) (demand (rows (k - 1)) l) (λ e. allowance-within (rows (k - 1)) l (fit k e)) (omega arith);
       }
 
 demand-given : (r : Row) (l : ℕ) → demand (given r) l ≡ demand r l
@@ -62,23 +49,21 @@ demands-kept : (n : ℕ) (rows rows′ : ℕ → Row) → ((i l : ℕ) → i < n
 demands-kept n rows rows′ same =
     record {
       count = refl;
-      demand = fun-ext (λ k. fun-ext (λ l. by-part (λ x y. x ≡ y) n k (demand (rows′ (k - 1)) l) (demand (rows (k - 1)) l) (λ e. same (k - 1) l (place-of n k e .1)) refl))
+      demand = fun-ext (λ k. fun-ext (λ l. by-part (λ x y. x ≡ y) n k (demand (rows′ (k - 1)) l) (demand (rows (k - 1)) l) (λ e. same (k - 1) l (place-of n k e .1)) refl));
     }
 
 module _ (n : ℕ) (rows rows′ : ℕ → Row) (fits : (i : ℕ) → i < n → Fit (rows i)) where
   pub table-taken : (k u : ℕ) → offerable n (allowances n rows) k u ≡ true → rows′ (k - 1) ≡ given (rows (k - 1)) → ((j : ℕ) → j < n → (j ≡ k - 1 → ⊥) → rows′ j ≡ rows j) → Kept n (demands n rows) n (demands n rows′) × Taken (allowances n rows) k u (allowances n rows′)
   table-taken k u offered moved others = (demands-kept n rows rows′ same, record { within = within; others = rest })
     where
-      parts : (isPart n k ≡ true) × ((leb 1 u && leb u (allowances n rows k 1)) ≡ true)
-      parts = and-parts (isPart n k) (leb 1 u && leb u (allowances n rows k 1)) offered
+      parts : (isPart n k ≡ true) × (1 ≤ u) × (u ≤ allowances n rows k 1)
+      parts = offerable-parts n (allowances n rows) k u offered
 
       here : (1 ≤ k) × (k - 1 < n)
       here = place-of n k (parts .0)
 
-      units : (1 ≤ u) × (u ≤ allowance (rows (k - 1)) 1)
-      units =
-          let p = and-parts (leb 1 u) (leb u (allowances n rows k 1)) (parts .1) in
-          (leb-true 1 u (p .0), subst (λ x. u ≤ x) (cond-true (isPart n k) (allowance (rows (k - 1)) 1) 0 (parts .0)) (leb-true u (allowances n rows k 1) (p .1)))
+      units : u ≤ allowance (rows (k - 1)) 1
+      units = subst (λ x. u ≤ x) (cond-true (isPart n k) (allowance (rows (k - 1)) 1) 0 (parts .0)) (parts .2)
 
       same : (i l : ℕ) → i < n → demand (rows′ i) l ≡ demand (rows i) l
       same i l h = elim (cases-eq i (k - 1)) [ inl e ↦ subst (λ j. demand (rows′ j) l ≡ demand (rows j) l) (sym e) (ap (λ r. demand r l) moved ∙ demand-given (rows (k - 1)) l) | inr ne ↦ ap (λ r. demand r l) (others i h ne) ]
@@ -87,7 +72,7 @@ module _ (n : ℕ) (rows rows′ : ℕ → Row) (fits : (i : ℕ) → i < n → 
       within l h =
           let now : allowances n rows k l ≡ allowance (rows (k - 1)) l = cond-true (isPart n k) (allowance (rows (k - 1)) l) 0 (parts .0) in
           let then : allowances n rows′ k l ≡ allowance (given (rows (k - 1))) l = cond-true (isPart n k) (allowance (rows′ (k - 1)) l) 0 (parts .0) ∙ ap (λ r. allowance r l) moved in
-          omega (arith, given-within (rows (k - 1)) u l (fits (k - 1) (here .1)) (units .0) (units .1) h)
+          omega (arith, given-within (rows (k - 1)) u l (fits (k - 1) (here .1)) (parts .1) units h)
 
       rest : (j l : ℕ) → (j ≡ k → ⊥) → allowances n rows′ j l ≡ allowances n rows j l
       rest j l ne = by-part (λ x y. x ≡ y) n j (allowance (rows′ (j - 1)) l) (allowance (rows (j - 1)) l) (λ e. ap (λ r. allowance r l) (others (j - 1) (place-of n j e .1) (apart j ne (place-of n j e .0)))) refl
@@ -96,9 +81,10 @@ module _ (n : ℕ) (rows rows′ : ℕ → Row) (fits : (i : ℕ) → i < n → 
           apart j ne low e = ne (omega (arith, here .0))
 
   pub table-ticked : ((i : ℕ) → i < n → rows′ i ≡ later (rows i)) → Kept n (demands n rows) n (demands n rows′) × Ticked (allowances n rows) (allowances n rows′)
-  table-ticked lowered =
-      ( demands-kept n rows rows′ (λ i l h. ap (λ r. demand r l) (lowered i h) ∙ demand-later (rows i) l),
-        record { shorter = λ k l. by-part (λ x y. x ≤ y) n k (allowance (rows′ (k - 1)) l) (allowance (rows (k - 1)) (l + 1)) (λ e. subst (λ r. allowance r l ≤ allowance (rows (k - 1)) (l + 1)) (sym (lowered (k - 1) (place-of n k e .1))) (later-shorter (rows (k - 1)) l (fits (k - 1) (place-of n k e .1)))) (omega arith) } )
+  table-ticked lowered = (
+    demands-kept n rows rows′ (λ i l h. ap (λ r. demand r l) (lowered i h) ∙ demand-later (rows i) l),
+    record { shorter = λ k l. by-part (λ x y. x ≤ y) n k (allowance (rows′ (k - 1)) l) (allowance (rows (k - 1)) (l + 1)) (λ e. subst (λ r. allowance r l ≤ allowance (rows (k - 1)) (l + 1)) (sym (lowered (k - 1) (place-of n k e .1))) (later-shorter (rows (k - 1)) l (fits (k - 1) (place-of n k e .1)))) (omega arith) },
+  )
 
 -- a single part
 
@@ -117,7 +103,7 @@ pub list-taken : (n : ℕ) (rows : List Row) (k u n′ : ℕ) (rows′ : List Ro
 list-taken n rows k u n′ rows′ long fits g = subst (λ m. Kept n (demands n (rowAt rows)) m (demands m (rowAt rows′)) × Taken (allowances n (rowAt rows)) k u (allowances m (rowAt rows′))) (sym (g .count)) (table-taken n (rowAt rows) (rowAt rows′) fits k u (g .offered) moved others)
   where
     here : k - 1 < n
-    here = place-of n k (and-parts (isPart n k) (leb 1 u && leb u (allowances n (rowAt rows) k 1)) (g .offered) .0) .1
+    here = place-of n k (offerable-parts n (allowances n (rowAt rows)) k u (g .offered) .0) .1
 
     moved : rowAt rows′ (k - 1) ≡ given (rowAt rows (k - 1))
     moved = ap (λ l. rowAt l (k - 1)) (g .moved) ∙ getD-set-same rows (k - 1) (given (rowAt rows (k - 1))) blank (omega (arith, here))
@@ -134,10 +120,8 @@ list-ticked n rows n′ rows′ long fits g = subst (λ m. Kept n (demands n (ro
 -- an offer that is within what its row allows
 pub offered-at : (n : ℕ) (rows : ℕ → Row) (k u : ℕ) → 1 ≤ k → k ≤ n → 1 ≤ u → u ≤ allowance (rows (k - 1)) 1 → offerable n (allowances n rows) k u ≡ true
 offered-at n rows k u low high some within =
-    and-from (isPart n k) (leb 1 u && leb u (allowances n rows k 1)) part (and-from (leb 1 u) (leb u (allowances n rows k 1)) (le-leb 1 u some) (le-leb u (allowances n rows k 1) (subst (λ x. u ≤ x) (sym (cond-true (isPart n k) (allowance (rows (k - 1)) 1) 0 part)) within)))
-  where
-    part : isPart n k ≡ true
-    part = and-from (leb 1 k) (leb k n) (le-leb 1 k low) (le-leb k n high)
+    let part : isPart n k ≡ true = part-from n k low high in
+    offerable-from n (allowances n rows) k u part some (subst (λ x. u ≤ x) (sym (cond-true (isPart n k) (allowance (rows (k - 1)) 1) 0 part)) within)
 
 -- what holds of each row, after one was written, and after all have ticked
 pub set-every : (P : Row → Type 0) (rows : List Row) (k : ℕ) (v : Row) (m : ℕ) → k < length rows → ((i : ℕ) → i < m → (i ≡ k → ⊥) → P (rowAt rows i)) → P v → (i : ℕ) → i < m → P (rowAt (set rows k v) i)

@@ -1,11 +1,11 @@
 // The rack: the interrupts of a panel.
+use crate::table::Table;
+use crate::table::TableGate;
+use crate::table::TableSource;
 use refusal::Fault;
 use refusal::Refusal;
 use source::Gate;
 use source::Source;
-use crate::table::Table;
-use crate::table::TableGate;
-use crate::table::TableSource;
 ghost use Prim.Native.Nat.{ℕ, _+_, _-_, _≤_, _<_};
 ghost use mathlib.Core.Path.{_≡_};
 ghost use mathlib.Core.Bool.{true, false, cond, _&&_};
@@ -33,7 +33,9 @@ impl Rack {
         ensures rows { λ r. ⌜ r .table .rows ≡ replicate 16 unused ⌝ }
         ensures count { λ r. ⌜ r .table .count ≡ 0 ⌝ }
     {
-        Rack { table: Table::new() }
+        Rack {
+            table: Table::new(),
+        }
     }
 
     // One part more behind the others, with level and place 0, or a refusal: a ninth part or more than 8 costs; a period

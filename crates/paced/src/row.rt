@@ -114,7 +114,14 @@ impl Row {
         }
         let count = costs.len() as u32;
         let costs = padded(costs);
-        Ok(Row { period, jitter, count, costs, level: 0, place: 0 })
+        Ok(Row {
+            period,
+            jitter,
+            count,
+            costs,
+            level: 0,
+            place: 0,
+        })
     }
 
     // The most that the row brings in any `ticks` ticks in a row.
@@ -138,7 +145,11 @@ impl Row {
         requires { ⌜ Fit (now self) ⌝ }
         ensures { λ r. ⌜ r ≡ allowance (now (self .entry)) 1 ⌝ }
     {
-        if self.level <= self.jitter { self.costs[self.place as usize] } else { 0 }
+        if self.level <= self.jitter {
+            self.costs[self.place as usize]
+        } else {
+            0
+        }
     }
 
     // The row after an offer was taken.

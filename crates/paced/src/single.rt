@@ -1,10 +1,10 @@
 // One paced part by itself.
+use crate::row::Row;
 use cycles::step;
 use refusal::Refusal;
 use source::Gate;
-use source::Source;
 use source::LONGEST;
-use crate::row::Row;
+use source::Source;
 ghost use Prim.Native.Nat.{ℕ};
 ghost use mathlib.Core.Path.{_≡_};
 ghost use mathlib.Core.Bool.{true, false, cond, _&&_};
@@ -58,7 +58,11 @@ pub impl Source for Paced as PacedSource {
     }
 
     fn allowance(&self, part: u32) -> Option<u64> {
-        if part == 1 { Some(u64::from(self.row.allowance())) } else { None }
+        if part == 1 {
+            Some(u64::from(self.row.allowance()))
+        } else {
+            None
+        }
     }
 }
 

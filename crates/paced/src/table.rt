@@ -1,9 +1,9 @@
 // A table of paced parts: plain rows, of which the table says what they keep to.
+use crate::row::Row;
 use refusal::Fault;
 use source::Gate;
-use source::Source;
 use source::LONGEST;
-use crate::row::Row;
+use source::Source;
 ghost use Prim.Native.Nat.{ℕ, _+_, _-_, _≤_, _<_};
 ghost use mathlib.Core.Path.{_≡_};
 ghost use mathlib.Core.Bool.{true, false, cond, _&&_};
@@ -38,8 +38,18 @@ impl Table {
         ensures rows { λ r. ⌜ r .rows ≡ replicate 16 unused ⌝ }
         ensures count { λ r. ⌜ r .count ≡ 0 ⌝ }
     {
-        let unused = Row { period: 0, jitter: 0, count: 0, costs: [0; 8], level: 0, place: 0 };
-        Table { rows: [unused; 16], count: 0 }
+        let unused = Row {
+            period: 0,
+            jitter: 0,
+            count: 0,
+            costs: [0; 8],
+            level: 0,
+            place: 0,
+        };
+        Table {
+            rows: [unused; 16],
+            count: 0,
+        }
     }
 
     // One part more behind the others, with level and place 0, or what is wrong: no room or more than 8 costs; a period

@@ -69,7 +69,8 @@ impl Fault {
         match self {
             Fault::SheetTooLong | Fault::ForeignByte | Fault::BadWord => Layer::Words,
             Fault::BadLine => Layer::Lines,
-            Fault::TooMany | Fault::OutOfRange | Fault::Misfit | Fault::HoldAboveBlocking => Layer::Plan,
+            Fault::TooMany | Fault::OutOfRange | Fault::Misfit | Fault::HoldAboveBlocking =>
+                Layer::Plan,
             Fault::NotJudgeable | Fault::NoWindow => Layer::Judge,
             Fault::BufferTooShort => Layer::List,
             _ => Layer::Run,
@@ -117,7 +118,11 @@ impl Refusal {
         ensures line { λ r. ⌜ r .line ≡ 0 ⌝ }
         ensures task { λ r. ⌜ r .task ≡ 0 ⌝ }
     {
-        Refusal { fault, line: 0, task: 0 }
+        Refusal {
+            fault,
+            line: 0,
+            task: 0,
+        }
     }
 
     // The refusal for a fault that a line and a task are at hand for, of which it keeps those that the fault has.

@@ -27,7 +27,7 @@ beside-sound m n f a g b s t =
       outside = λ k l e. beside-by (λ x y. x ≡ 0) m f g f g k l l (λ h. s .outside k l (left-outside k e)) (λ h i. t .outside (k - m) l (right-outside k e h i)) (λ _ _. refl);
       rises = λ k l l′ h. beside-by (λ x y. x ≤ y) m f g f g k l l′ (λ _. s .rises k l l′ h) (λ _ _. t .rises (k - m) l l′ h) (λ _ _. omega arith);
       small = λ k l h. beside-by (λ x y. x ≤ 10000000000000) m f g f g k l l (λ _. s .small k l h) (λ _ _. t .small (k - m) l h) (λ _ _. omega arith);
-      within = λ k l. beside-by (λ x y. x ≤ y) m a b f g k l l (λ _. s .within k l) (λ _ _. t .within (k - m) l) (λ _ _. omega arith)
+      within = λ k l. beside-by (λ x y. x ≤ y) m a b f g k l l (λ _. s .within k l) (λ _ _. t .within (k - m) l) (λ _ _. omega arith);
     }
   where
     left-outside : (k : ℕ) → isPart (both m n) k ≡ false → isPart m k ≡ false
@@ -41,7 +41,7 @@ pub beside-kept : (m n m′ n′ : ℕ) (f g f′ g′ : ℕ → ℕ → ℕ) �
 beside-kept m n m′ n′ f g f′ g′ p q =
     record {
       count = λ i. both (p .count i) (q .count i);
-      demand = λ i. beside (p .count i) (p .demand i) (q .demand i)
+      demand = λ i. beside (p .count i) (p .demand i) (q .demand i);
     }
 
 -- a source that is the same keeps its count and demand
@@ -55,7 +55,7 @@ taken-left m m′ a a′ b b′ k u e same h t =
     (λ i. beside (sym e i) a′ (sym same i))
     (record {
       within = λ l p. beside-by (λ x y. u + x ≤ y) m a′ b a b k l l (λ _. t .within l p) (λ g _. omega arith) (λ g _. omega arith);
-      others = λ j l ne. beside-by (λ x y. x ≡ y) m a′ b a b j l l (λ _. t .others j l ne) (λ _ _. refl) (λ _ _. refl)
+      others = λ j l ne. beside-by (λ x y. x ≡ y) m a′ b a b j l l (λ _. t .others j l ne) (λ _ _. refl) (λ _ _. refl);
     })
 
 taken-right : (m m′ : ℕ) (a a′ b b′ : ℕ → ℕ → ℕ) (k u : ℕ) → m′ ≡ m → a′ ≡ a → m < k → k ≤ 1000 → Taken b (k - m) u b′ → Taken (beside m a b) k u (beside m′ a′ b′)
@@ -65,7 +65,7 @@ taken-right m m′ a a′ b b′ k u e same h i t =
     (λ j. beside (sym e j) (sym same j) b′)
     (record {
       within = λ l p. beside-by (λ x y. u + x ≤ y) m a b′ a b k l l (λ g. omega arith) (λ _ _. t .within l p) (λ _ g. omega arith);
-      others = λ j l ne. beside-by (λ x y. x ≡ y) m a b′ a b j l l (λ _. refl) (λ g _. t .others (j - m) l (λ e. ne (omega arith))) (λ _ _. refl)
+      others = λ j l ne. beside-by (λ x y. x ≡ y) m a b′ a b j l l (λ _. refl) (λ g _. t .others (j - m) l (λ e. ne (omega arith))) (λ _ _. refl);
     })
 
 beside-ticked : (m m′ : ℕ) (a a′ b b′ : ℕ → ℕ → ℕ) → m′ ≡ m → Ticked a a′ → Ticked b b′ → Ticked (beside m a b) (beside m′ a′ b′)
@@ -84,17 +84,20 @@ module _ {S T : Type 0} (n : S → ℕ) (f a : S → ℕ → ℕ → ℕ) (takes
     where
       go : (b : Bool) → leb k (n s) ≡ b → When b (takesˡ s k u t × (y ≡ x)) ((k ≤ 1000) × takesʳ x (k - n s) u y × (t ≡ s)) → Kept (both (n s) (n′ x)) (beside (n s) (f s) (f′ x)) (both (n t) (n′ y)) (beside (n t) (f t) (f′ y)) × Taken (beside (n s) (a s) (a′ x)) k u (beside (n t) (a t) (a′ y))
       go true p h =
-          let l = left .taken s t k u (h .0) in
-          ( beside-kept (n s) (n′ x) (n t) (n′ y) (f s) (f′ x) (f t) (f′ y) (l .0) (kept-same n′ f′ x y (h .1)),
-            taken-left (n s) (n t) (a s) (a t) (a′ x) (a′ y) k u (l .0 .count) (ap a′ (h .1)) (leb-true k (n s) p) (l .1) )
+          let l = left .taken s t k u (h .0) in (
+            beside-kept (n s) (n′ x) (n t) (n′ y) (f s) (f′ x) (f t) (f′ y) (l .0) (kept-same n′ f′ x y (h .1)),
+            taken-left (n s) (n t) (a s) (a t) (a′ x) (a′ y) k u (l .0 .count) (ap a′ (h .1)) (leb-true k (n s) p) (l .1),
+          )
       go false p h =
-          let r = right .taken x y (k - n s) u (h .1) in
-          ( beside-kept (n s) (n′ x) (n t) (n′ y) (f s) (f′ x) (f t) (f′ y) (kept-same n f s t (h .2)) (r .0),
-            taken-right (n s) (n t) (a s) (a t) (a′ x) (a′ y) k u (ap n (h .2)) (ap a (h .2)) (leb-false k (n s) p) (h .0) (r .1) )
+          let r = right .taken x y (k - n s) u (h .1) in (
+            beside-kept (n s) (n′ x) (n t) (n′ y) (f s) (f′ x) (f t) (f′ y) (kept-same n f s t (h .2)) (r .0),
+            taken-right (n s) (n t) (a s) (a t) (a′ x) (a′ y) k u (ap n (h .2)) (ap a (h .2)) (leb-false k (n s) p) (h .0) (r .1),
+          )
 
   pub beside-driven : (s t : S) (x y : T) → ticksˡ s t × ticksʳ x y → Kept (both (n s) (n′ x)) (beside (n s) (f s) (f′ x)) (both (n t) (n′ y)) (beside (n t) (f t) (f′ y)) × Ticked (beside (n s) (a s) (a′ x)) (beside (n t) (a t) (a′ y))
   beside-driven s t x y h =
       let l = left .ticked s t (h .0) in
-      let r = right .ticked x y (h .1) in
-      ( beside-kept (n s) (n′ x) (n t) (n′ y) (f s) (f′ x) (f t) (f′ y) (l .0) (r .0),
-        beside-ticked (n s) (n t) (a s) (a t) (a′ x) (a′ y) (l .0 .count) (l .1) (r .1) )
+      let r = right .ticked x y (h .1) in (
+        beside-kept (n s) (n′ x) (n t) (n′ y) (f s) (f′ x) (f t) (f′ y) (l .0) (r .0),
+        beside-ticked (n s) (n t) (a s) (a t) (a′ x) (a′ y) (l .0 .count) (l .1) (r .1),
+      )

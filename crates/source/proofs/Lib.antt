@@ -1,1 +1,2 @@
 pub mod Besides
+pub mod Parts

@@ -3,12 +3,16 @@
 -- that it may still bring in the next l ticks, and does. A gate is a source that can also be driven.
 use Prim.Native.Nat.{ℕ, _+_, _≤_}
 use mathlib.Core.Path.{_≡_}
-use mathlib.Core.Bool.{Bool, true, false, _&&_}
+use mathlib.Core.Bool.{Bool, true, false, cond, _&&_}
 use lib.Dec.{leb}
 
 -- k is a part of a source with n parts
 abbrev pub isPart : ℕ → ℕ → Bool
 isPart n k = leb 1 k && leb k n
+
+-- what f gives, for the only part of a source that has one
+abbrev pub single : (ℕ → ℕ) → ℕ → ℕ → ℕ
+single f k l = cond (isPart 1 k) (f l) 0
 
 -- an offer of u units to part k is taken exactly when k is a part and u is from 1 to its allowance for one tick
 abbrev pub offerable : ℕ → (ℕ → ℕ → ℕ) → ℕ → ℕ → Bool

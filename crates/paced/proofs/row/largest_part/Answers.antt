@@ -13,7 +13,7 @@ whole-window-requires c κs =
     let short : c .args .m ≤ length (c .args .costs .now) = omega arith in
     record {
       few = omega (arith, front-length (c .args .costs .now) (c .args .m) short);
-      small = front-small (c .args .costs .now) (c .args .m) short (c .pre .small)
+      small = front-small (c .args .costs .now) (c .args .m) short (c .pre .small);
     }
 
 pub loop-place-holds : need.loop-place-holds
@@ -22,10 +22,11 @@ loop-place-holds c =
     let m = c .args .m in
     let n = length xs in
     let short : m ≤ n = omega arith in
-    let first : turn n 0 ≡ 0 = turn-at n 0 (omega arith) in
-    ( c .whole-window .ensures ∙ front-sum xs m short ∙ sym (met-first n (at xs) m short) ∙ ap (λ k. met n (at xs) k m) (sym first),
+    let first : turn n 0 ≡ 0 = turn-at n 0 (omega arith) in (
+      c .whole-window .ensures ∙ front-sum xs m short ∙ sym (met-first n (at xs) m short) ∙ ap (λ k. met n (at xs) k m) (sym first),
       sym (onward-first n m (c .pre .short)) ∙ ap (λ k. onward n k m) (sym first),
-      refl )
+      refl,
+    )
 
 pub cast-window : need.cast-window
 cast-window c =
@@ -61,7 +62,8 @@ loop-place-again c =
     let xs = c .args .costs .now in
     let m = c .args .m in
     let taken = c .loop-place-test .taken in
-    let grown : max (l .best) (l .window) ≡ largest-from (length xs) xs m (l .place + 1) = best-grows xs m (l .place) (l .window) (l .end) (l .best) taken (l .inv .0) (l .inv .1) (l .inv .2) in
-    ( omega (arith, window-slides xs m (l .place) (l .window) (l .end) (l .best) taken (l .inv .0) (l .inv .1)),
+    let grown : max (l .best) (l .window) ≡ largest-from (length xs) xs m (l .place + 1) = best-grows xs m (l .place) (l .window) (l .end) (l .best) taken (l .inv .0) (l .inv .1) (l .inv .2) in (
+      omega (arith, window-slides xs m (l .place) (l .window) (l .end) (l .best) taken (l .inv .0) (l .inv .1)),
       c .step-end .ensures ∙ end-moves xs m (l .place) (l .window) (l .end) (l .best) taken (l .inv .0) (l .inv .1),
-      largest-is c ∙ grown )
+      largest-is c ∙ grown,
+    )

@@ -1,9 +1,8 @@
 use native.Mathlib.Omega.{arith}
 use Prim.Native.Nat.{_≤_, _*_}
 use Rattle.cycles.specs.Round.{sum}
-use Rattle.cycles.proofs.Rounds.{sum-least}
+use Rattle.cycles.proofs.Rounds.{sum-least, sum-on}
 use Rattle.paced.specs.Runs.{at}
-use Rattle.paced.proofs.Runs.{sum-on}
 use Rattle.paced.proofs.row.whole.Needs as need
 
 pub add-all : need.add-all

@@ -19,7 +19,7 @@ whole-requires c κs =
     let short : r .count ≤ length (r .costs) = omega arith in
     record {
       few = omega (arith, front-length (r .costs) (r .count) short);
-      small = front-small (r .costs) (r .count) short (c .pre .fit .costs)
+      small = front-small (r .costs) (r .count) short (c .pre .fit .costs);
     }
 
 pub largest-part-requires : need.largest-part-requires
@@ -29,7 +29,7 @@ largest-part-requires c κs =
     record {
       few = omega (arith, front-length (r .costs) (r .count) short);
       small = front-small (r .costs) (r .count) short (c .pre .fit .costs);
-      short = omega (arith, front-length (r .costs) (r .count) short, mod-lt ((r .jitter + (c .args .ticks - 1)) / r .period + 1) {m = r .count} (omega arith))
+      short = omega (arith, front-length (r .costs) (r .count) short, mod-lt ((r .jitter + (c .args .ticks - 1)) / r .period + 1) {m = r .count} (omega arith));
     }
 
 pub returns : need.returns

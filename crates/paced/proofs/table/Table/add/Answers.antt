@@ -17,8 +17,13 @@ ghost-self c =
     let n = s .count in
     let row = c .in-Continue-row .row in
     let fit : Fit row = c .in-Continue-row .ensures tt .fit in
-    let room : n < length (s .rows) = omega arith in
-    ( length-set (s .rows) n row ∙ s .held,
-      ( omega arith,
-        ( set-every Paces (s .rows) n row (n + 1) room (λ i l ne. s .paces i (omega arith)) (fit .paces),
-          ( set-every Places (s .rows) n row (n + 1) room (λ i l ne. s .places i (omega arith)) (fit .places), (set-every Costs (s .rows) n row (n + 1) room (λ i l ne. s .costs i (omega arith)) (fit .costs), tt) ) ) ) )
+    let room : n < length (s .rows) = omega arith in (
+      length-set (s .rows) n row ∙ s .held,
+      (
+        omega arith,
+        (
+          set-every Paces (s .rows) n row (n + 1) room (λ i l ne. s .paces i (omega arith)) (fit .paces),
+          (set-every Places (s .rows) n row (n + 1) room (λ i l ne. s .places i (omega arith)) (fit .places), (set-every Costs (s .rows) n row (n + 1) room (λ i l ne. s .costs i (omega arith)) (fit .costs), tt)),
+        ),
+      ),
+    )

@@ -22,11 +22,16 @@ ghost-self c =
     let s = c .args .self .now in
     let all : c .loop-row .row-items ≡ map later (s .rows) = ticks-all (s .rows) (c .loop-row .row-items) (c .loop-row .row-index) (omega arith) (c .loop-row .inv) in
     let fit : (i : ℕ) → i < s .count → Fit (later (rowAt (s .rows) i)) = λ i h. later-fit (rowAt (s .rows) i) (record { paces = s .paces i h; places = s .places i h; costs = s .costs i h }) in
-    subst (λ rows. (length rows ≡ 16) × ((s .count ≤ 16) × (((i : ℕ) → i < s .count → Paces (rowAt rows i)) × (((i : ℕ) → i < s .count → Places (rowAt rows i)) × (((i : ℕ) → i < s .count → Costs (rowAt rows i)) × Unit {0}))))) (sym all)
-    ( length-map (s .rows) later ∙ s .held,
-      ( s .few,
-        ( later-every Paces (s .rows) (s .count) (omega arith) (λ i h. fit i h .paces),
-          ( later-every Places (s .rows) (s .count) (omega arith) (λ i h. fit i h .places), (later-every Costs (s .rows) (s .count) (omega arith) (λ i h. fit i h .costs), tt) ) ) ) )
+    subst (λ rows. (length rows ≡ 16) × ((s .count ≤ 16) × (((i : ℕ) → i < s .count → Paces (rowAt rows i)) × (((i : ℕ) → i < s .count → Places (rowAt rows i)) × (((i : ℕ) → i < s .count → Costs (rowAt rows i)) × Unit {0}))))) (sym all) (
+      length-map (s .rows) later ∙ s .held,
+      (
+        s .few,
+        (
+          later-every Paces (s .rows) (s .count) (omega arith) (λ i h. fit i h .paces),
+          (later-every Places (s .rows) (s .count) (omega arith) (λ i h. fit i h .places), (later-every Costs (s .rows) (s .count) (omega arith) (λ i h. fit i h .costs), tt)),
+        ),
+      ),
+    )
 
 pub returns : need.returns
 returns c =

@@ -1,0 +1,3 @@
+pub mod Explaining
+pub mod Playing
+pub mod Following
