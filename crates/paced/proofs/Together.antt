@@ -13,7 +13,7 @@ use Rattle.std.proofs.shelf.Tests.{cond-true, cond-false, cases-eq}
 use Rattle.source.specs.Facts.{isPart, offerable, Sound, Kept, Taken, Ticked}
 use Rattle.source.proofs.Parts.{part-bounds, part-from, offerable-parts, offerable-from, by-part}
 use Rattle.paced.specs.Pace.{demand, allowance, given, later, blank, Fit}
-use Rattle.paced.specs.Tables.{rowAt, demands, allowances, only, Gives, GivesOne, Passes}
+use Rattle.paced.specs.Tables.{rowAt, demandsOf, allowancesOf, only, Gives, GivesOne, Passes}
 use Rattle.paced.specs.declared.row.Row.{Row}
 use Rattle.paced.proofs.Rows.{demand-none, demand-rises, demand-small, allowance-within, given-within, later-shorter}
 
@@ -25,7 +25,7 @@ module _ (n : ℕ) (rows : ℕ → Row) (few : n ≤ 1000) (fits : (i : ℕ) →
   fit : (k : ℕ) → isPart n k ≡ true → Fit (rows (k - 1))
   fit k e = fits (k - 1) (place-of n k e .1)
 
-  pub table-sound : Sound n (demands n rows) (allowances n rows)
+  pub table-sound : Sound n (demandsOf n rows) (allowancesOf n rows)
   table-sound =
       record {
         few = few;
@@ -45,7 +45,7 @@ demand-later r zero = refl
 demand-later r (suc l) = refl
 
 -- rows that have moved on keep their demand
-demands-kept : (n : ℕ) (rows rows′ : ℕ → Row) → ((i l : ℕ) → i < n → demand (rows′ i) l ≡ demand (rows i) l) → Kept n (demands n rows) n (demands n rows′)
+demands-kept : (n : ℕ) (rows rows′ : ℕ → Row) → ((i l : ℕ) → i < n → demand (rows′ i) l ≡ demand (rows i) l) → Kept n (demandsOf n rows) n (demandsOf n rows′)
 demands-kept n rows rows′ same =
     record {
       count = refl;
@@ -53,11 +53,11 @@ demands-kept n rows rows′ same =
     }
 
 module _ (n : ℕ) (rows rows′ : ℕ → Row) (fits : (i : ℕ) → i < n → Fit (rows i)) where
-  pub table-taken : (k u : ℕ) → offerable n (allowances n rows) k u ≡ true → rows′ (k - 1) ≡ given (rows (k - 1)) → ((j : ℕ) → j < n → (j ≡ k - 1 → ⊥) → rows′ j ≡ rows j) → Kept n (demands n rows) n (demands n rows′) × Taken (allowances n rows) k u (allowances n rows′)
+  pub table-taken : (k u : ℕ) → offerable n (allowancesOf n rows) k u ≡ true → rows′ (k - 1) ≡ given (rows (k - 1)) → ((j : ℕ) → j < n → (j ≡ k - 1 → ⊥) → rows′ j ≡ rows j) → Kept n (demandsOf n rows) n (demandsOf n rows′) × Taken (allowancesOf n rows) k u (allowancesOf n rows′)
   table-taken k u offered moved others = (demands-kept n rows rows′ same, record { within = within; others = rest })
     where
-      parts : (isPart n k ≡ true) × (1 ≤ u) × (u ≤ allowances n rows k 1)
-      parts = offerable-parts n (allowances n rows) k u offered
+      parts : (isPart n k ≡ true) × (1 ≤ u) × (u ≤ allowancesOf n rows k 1)
+      parts = offerable-parts n (allowancesOf n rows) k u offered
 
       here : (1 ≤ k) × (k - 1 < n)
       here = place-of n k (parts .0)
@@ -68,19 +68,19 @@ module _ (n : ℕ) (rows rows′ : ℕ → Row) (fits : (i : ℕ) → i < n → 
       same : (i l : ℕ) → i < n → demand (rows′ i) l ≡ demand (rows i) l
       same i l h = elim (cases-eq i (k - 1)) [ inl e ↦ subst (λ j. demand (rows′ j) l ≡ demand (rows j) l) (sym e) (ap (λ r. demand r l) moved ∙ demand-given (rows (k - 1)) l) | inr ne ↦ ap (λ r. demand r l) (others i h ne) ]
 
-      within : (l : ℕ) → 1 ≤ l → u + allowances n rows′ k l ≤ allowances n rows k l
+      within : (l : ℕ) → 1 ≤ l → u + allowancesOf n rows′ k l ≤ allowancesOf n rows k l
       within l h =
-          let now : allowances n rows k l ≡ allowance (rows (k - 1)) l = cond-true (isPart n k) (allowance (rows (k - 1)) l) 0 (parts .0) in
-          let then : allowances n rows′ k l ≡ allowance (given (rows (k - 1))) l = cond-true (isPart n k) (allowance (rows′ (k - 1)) l) 0 (parts .0) ∙ ap (λ r. allowance r l) moved in
+          let now : allowancesOf n rows k l ≡ allowance (rows (k - 1)) l = cond-true (isPart n k) (allowance (rows (k - 1)) l) 0 (parts .0) in
+          let then : allowancesOf n rows′ k l ≡ allowance (given (rows (k - 1))) l = cond-true (isPart n k) (allowance (rows′ (k - 1)) l) 0 (parts .0) ∙ ap (λ r. allowance r l) moved in
           omega (arith, given-within (rows (k - 1)) u l (fits (k - 1) (here .1)) (parts .1) units h)
 
-      rest : (j l : ℕ) → (j ≡ k → ⊥) → allowances n rows′ j l ≡ allowances n rows j l
+      rest : (j l : ℕ) → (j ≡ k → ⊥) → allowancesOf n rows′ j l ≡ allowancesOf n rows j l
       rest j l ne = by-part (λ x y. x ≡ y) n j (allowance (rows′ (j - 1)) l) (allowance (rows (j - 1)) l) (λ e. ap (λ r. allowance r l) (others (j - 1) (place-of n j e .1) (apart j ne (place-of n j e .0)))) refl
         where
           apart : (j : ℕ) → (j ≡ k → ⊥) → 1 ≤ j → j - 1 ≡ k - 1 → ⊥
           apart j ne low e = ne (omega (arith, here .0))
 
-  pub table-ticked : ((i : ℕ) → i < n → rows′ i ≡ later (rows i)) → Kept n (demands n rows) n (demands n rows′) × Ticked (allowances n rows) (allowances n rows′)
+  pub table-ticked : ((i : ℕ) → i < n → rows′ i ≡ later (rows i)) → Kept n (demandsOf n rows) n (demandsOf n rows′) × Ticked (allowancesOf n rows) (allowancesOf n rows′)
   table-ticked lowered = (
     demands-kept n rows rows′ (λ i l h. ap (λ r. demand r l) (lowered i h) ∙ demand-later (rows i) l),
     record { shorter = λ k l. by-part (λ x y. x ≤ y) n k (allowance (rows′ (k - 1)) l) (allowance (rows (k - 1)) (l + 1)) (λ e. subst (λ r. allowance r l ≤ allowance (rows (k - 1)) (l + 1)) (sym (lowered (k - 1) (place-of n k e .1))) (later-shorter (rows (k - 1)) l (fits (k - 1) (place-of n k e .1)))) (omega arith) },
@@ -88,22 +88,22 @@ module _ (n : ℕ) (rows rows′ : ℕ → Row) (fits : (i : ℕ) → i < n → 
 
 -- a single part
 
-pub single-sound : (r : Row) → Fit r → Sound 1 (demands 1 (only r)) (allowances 1 (only r))
+pub single-sound : (r : Row) → Fit r → Sound 1 (demandsOf 1 (only r)) (allowancesOf 1 (only r))
 single-sound r fit = table-sound 1 (only r) (omega arith) (λ _ _. fit)
 
-pub single-taken : (r r′ : Row) (k u : ℕ) → Fit r → GivesOne r k u r′ → Kept 1 (demands 1 (only r)) 1 (demands 1 (only r′)) × Taken (allowances 1 (only r)) k u (allowances 1 (only r′))
+pub single-taken : (r r′ : Row) (k u : ℕ) → Fit r → GivesOne r k u r′ → Kept 1 (demandsOf 1 (only r)) 1 (demandsOf 1 (only r′)) × Taken (allowancesOf 1 (only r)) k u (allowancesOf 1 (only r′))
 single-taken r r′ k u fit g = table-taken 1 (only r) (only r′) (λ _ _. fit) k u (g .offered) (g .moved) (λ j h ne. absurd (ne (omega (arith, g .part))))
 
-pub single-ticked : (r r′ : Row) → Fit r → r′ ≡ later r → Kept 1 (demands 1 (only r)) 1 (demands 1 (only r′)) × Ticked (allowances 1 (only r)) (allowances 1 (only r′))
+pub single-ticked : (r r′ : Row) → Fit r → r′ ≡ later r → Kept 1 (demandsOf 1 (only r)) 1 (demandsOf 1 (only r′)) × Ticked (allowancesOf 1 (only r)) (allowancesOf 1 (only r′))
 single-ticked r r′ fit e = table-ticked 1 (only r) (only r′) (λ _ _. fit) (λ _ _. e)
 
 -- rows in a list
 
-pub list-taken : (n : ℕ) (rows : List Row) (k u n′ : ℕ) (rows′ : List Row) → n ≤ length rows → ((i : ℕ) → i < n → Fit (rowAt rows i)) → Gives n rows k u n′ rows′ → Kept n (demands n (rowAt rows)) n′ (demands n′ (rowAt rows′)) × Taken (allowances n (rowAt rows)) k u (allowances n′ (rowAt rows′))
-list-taken n rows k u n′ rows′ long fits g = subst (λ m. Kept n (demands n (rowAt rows)) m (demands m (rowAt rows′)) × Taken (allowances n (rowAt rows)) k u (allowances m (rowAt rows′))) (sym (g .count)) (table-taken n (rowAt rows) (rowAt rows′) fits k u (g .offered) moved others)
+pub list-taken : (n : ℕ) (rows : List Row) (k u n′ : ℕ) (rows′ : List Row) → n ≤ length rows → ((i : ℕ) → i < n → Fit (rowAt rows i)) → Gives n rows k u n′ rows′ → Kept n (demandsOf n (rowAt rows)) n′ (demandsOf n′ (rowAt rows′)) × Taken (allowancesOf n (rowAt rows)) k u (allowancesOf n′ (rowAt rows′))
+list-taken n rows k u n′ rows′ long fits g = subst (λ m. Kept n (demandsOf n (rowAt rows)) m (demandsOf m (rowAt rows′)) × Taken (allowancesOf n (rowAt rows)) k u (allowancesOf m (rowAt rows′))) (sym (g .count)) (table-taken n (rowAt rows) (rowAt rows′) fits k u (g .offered) moved others)
   where
     here : k - 1 < n
-    here = place-of n k (offerable-parts n (allowances n (rowAt rows)) k u (g .offered) .0) .1
+    here = place-of n k (offerable-parts n (allowancesOf n (rowAt rows)) k u (g .offered) .0) .1
 
     moved : rowAt rows′ (k - 1) ≡ given (rowAt rows (k - 1))
     moved = ap (λ l. rowAt l (k - 1)) (g .moved) ∙ getD-set-same rows (k - 1) (given (rowAt rows (k - 1))) blank (omega (arith, here))
@@ -111,17 +111,17 @@ list-taken n rows k u n′ rows′ long fits g = subst (λ m. Kept n (demands n 
     others : (j : ℕ) → j < n → (j ≡ k - 1 → ⊥) → rowAt rows′ j ≡ rowAt rows j
     others j h ne = ap (λ l. rowAt l j) (g .moved) ∙ getD-set-other rows (k - 1) j (given (rowAt rows (k - 1))) blank ne
 
-pub list-ticked : (n : ℕ) (rows : List Row) (n′ : ℕ) (rows′ : List Row) → n ≤ length rows → ((i : ℕ) → i < n → Fit (rowAt rows i)) → Passes n rows n′ rows′ → Kept n (demands n (rowAt rows)) n′ (demands n′ (rowAt rows′)) × Ticked (allowances n (rowAt rows)) (allowances n′ (rowAt rows′))
-list-ticked n rows n′ rows′ long fits g = subst (λ m. Kept n (demands n (rowAt rows)) m (demands m (rowAt rows′)) × Ticked (allowances n (rowAt rows)) (allowances m (rowAt rows′))) (sym (g .count)) (table-ticked n (rowAt rows) (rowAt rows′) fits lowered)
+pub list-ticked : (n : ℕ) (rows : List Row) (n′ : ℕ) (rows′ : List Row) → n ≤ length rows → ((i : ℕ) → i < n → Fit (rowAt rows i)) → Passes n rows n′ rows′ → Kept n (demandsOf n (rowAt rows)) n′ (demandsOf n′ (rowAt rows′)) × Ticked (allowancesOf n (rowAt rows)) (allowancesOf n′ (rowAt rows′))
+list-ticked n rows n′ rows′ long fits g = subst (λ m. Kept n (demandsOf n (rowAt rows)) m (demandsOf m (rowAt rows′)) × Ticked (allowancesOf n (rowAt rows)) (allowancesOf m (rowAt rows′))) (sym (g .count)) (table-ticked n (rowAt rows) (rowAt rows′) fits lowered)
   where
     lowered : (i : ℕ) → i < n → rowAt rows′ i ≡ later (rowAt rows i)
     lowered i h = ap (λ l. rowAt l i) (g .lowered) ∙ getD-map later rows i blank blank (omega arith)
 
 -- an offer that is within what its row allows
-pub offered-at : (n : ℕ) (rows : ℕ → Row) (k u : ℕ) → 1 ≤ k → k ≤ n → 1 ≤ u → u ≤ allowance (rows (k - 1)) 1 → offerable n (allowances n rows) k u ≡ true
+pub offered-at : (n : ℕ) (rows : ℕ → Row) (k u : ℕ) → 1 ≤ k → k ≤ n → 1 ≤ u → u ≤ allowance (rows (k - 1)) 1 → offerable n (allowancesOf n rows) k u ≡ true
 offered-at n rows k u low high some within =
     let part : isPart n k ≡ true = part-from n k low high in
-    offerable-from n (allowances n rows) k u part some (subst (λ x. u ≤ x) (sym (cond-true (isPart n k) (allowance (rows (k - 1)) 1) 0 part)) within)
+    offerable-from n (allowancesOf n rows) k u part some (subst (λ x. u ≤ x) (sym (cond-true (isPart n k) (allowance (rows (k - 1)) 1) 0 part)) within)
 
 -- what holds of each row, after one was written, and after all have ticked
 pub set-every : (P : Row → Type 0) (rows : List Row) (k : ℕ) (v : Row) (m : ℕ) → k < length rows → ((i : ℕ) → i < m → (i ≡ k → ⊥) → P (rowAt rows i)) → P v → (i : ℕ) → i < m → P (rowAt (set rows k v) i)

@@ -11,11 +11,11 @@ use Rattle.paced.specs.declared.row.Row.{Row}
 abbrev pub rowAt : List Row → ℕ → Row
 rowAt rows i = getD rows i blank
 
-abbrev pub demands : ℕ → (ℕ → Row) → ℕ → ℕ → ℕ
-demands n rows k l = cond (isPart n k) (demand (rows (k - 1)) l) 0
+abbrev pub demandsOf : ℕ → (ℕ → Row) → ℕ → ℕ → ℕ
+demandsOf n rows k l = cond (isPart n k) (demand (rows (k - 1)) l) 0
 
-abbrev pub allowances : ℕ → (ℕ → Row) → ℕ → ℕ → ℕ
-allowances n rows k l = cond (isPart n k) (allowance (rows (k - 1)) l) 0
+abbrev pub allowancesOf : ℕ → (ℕ → Row) → ℕ → ℕ → ℕ
+allowancesOf n rows k l = cond (isPart n k) (allowance (rows (k - 1)) l) 0
 
 -- the table of a single part
 abbrev pub only : Row → ℕ → Row
@@ -24,12 +24,12 @@ only r i = r
 -- a single part takes an offer of u units
 pub record GivesOne (r : Row) (k u : ℕ) (r′ : Row) : Type 0 where
   pub part : k ≡ 1
-  pub offered : offerable 1 (allowances 1 (only r)) k u ≡ true
+  pub offered : offerable 1 (allowancesOf 1 (only r)) k u ≡ true
   pub moved : r′ ≡ given r
 
 -- a table takes an offer of u units at part k: the row of that part moves on, and nothing else
 pub record Gives (n : ℕ) (rows : List Row) (k u : ℕ) (n′ : ℕ) (rows′ : List Row) : Type 0 where
-  pub offered : offerable n (allowances n (rowAt rows)) k u ≡ true
+  pub offered : offerable n (allowancesOf n (rowAt rows)) k u ≡ true
   pub count : n′ ≡ n
   pub moved : rows′ ≡ set rows (k - 1) (given (rowAt rows (k - 1)))
 

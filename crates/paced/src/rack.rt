@@ -15,7 +15,7 @@ ghost use Rattle.std.specs.Results.{Cases};
 ghost use Rattle.std.specs.declared.option.Option.the-variants.{Some, None};
 ghost use Rattle.source.specs.Facts.{isPart, offerable, Sound, Kept, Taken, Ticked, Driven};
 ghost use Rattle.paced.specs.Makes.{adding, fresh, unused};
-ghost use Rattle.paced.specs.Tables.{rowAt, demands, allowances, Gives, Passes};
+ghost use Rattle.paced.specs.Tables.{rowAt, demandsOf, allowancesOf, Gives, Passes};
 
 // How many interrupts a rack has room for.
 pub const INTERRUPTS: u32 = 8;
@@ -58,9 +58,9 @@ impl Rack {
 pub impl Source for Rack as RackSource {
     ghost parts = { λ s. s .table .count };
 
-    ghost demanded = { λ s. demands (s .table .count) (rowAt (s .table .rows)) };
+    ghost demanded = { λ s. demandsOf (s .table .count) (rowAt (s .table .rows)) };
 
-    ghost allowed = { λ s. allowances (s .table .count) (rowAt (s .table .rows)) };
+    ghost allowed = { λ s. allowancesOf (s .table .count) (rowAt (s .table .rows)) };
 
     fn count(&self) -> u32 {
         self.table.count()

@@ -14,7 +14,7 @@ ghost use Rattle.std.specs.declared.option.Option.the-variants.{Some, None};
 ghost use Rattle.source.specs.Facts.{isPart, offerable, Sound, Kept, Taken, Ticked, Driven};
 ghost use Rattle.paced.specs.Makes.{fault-of, fresh};
 ghost use Rattle.paced.specs.Pace.{Paces, Places, Costs, later};
-ghost use Rattle.paced.specs.Tables.{demands, allowances, only, GivesOne};
+ghost use Rattle.paced.specs.Tables.{demandsOf, allowancesOf, only, GivesOne};
 
 // A gate of one part.
 #[derive(Clone, Copy)]
@@ -41,9 +41,9 @@ impl Paced {
 pub impl Source for Paced as PacedSource {
     ghost parts = { λ _. 1 };
 
-    ghost demanded = { λ s. demands 1 (only (s .row)) };
+    ghost demanded = { λ s. demandsOf 1 (only (s .row)) };
 
-    ghost allowed = { λ s. allowances 1 (only (s .row)) };
+    ghost allowed = { λ s. allowancesOf 1 (only (s .row)) };
 
     fn count(&self) -> u32 {
         1

@@ -14,7 +14,7 @@ ghost use Rattle.std.specs.declared.option.Option.the-variants.{Some, None};
 ghost use Rattle.source.specs.Facts.{isPart, offerable, Sound, Kept, Taken, Ticked, Driven};
 ghost use Rattle.paced.specs.Makes.{adding, fresh, unused};
 ghost use Rattle.paced.specs.Pace.{Paces, Places, Costs};
-ghost use Rattle.paced.specs.Tables.{rowAt, demands, allowances, Gives, Passes};
+ghost use Rattle.paced.specs.Tables.{rowAt, demandsOf, allowancesOf, Gives, Passes};
 
 // How many rows a table has room for.
 pub const ROOM: u32 = 16;
@@ -72,9 +72,9 @@ impl Table {
 pub impl Source for Table as TableSource {
     ghost parts = { λ s. s .count };
 
-    ghost demanded = { λ s. demands (s .count) (rowAt (s .rows)) };
+    ghost demanded = { λ s. demandsOf (s .count) (rowAt (s .rows)) };
 
-    ghost allowed = { λ s. allowances (s .count) (rowAt (s .rows)) };
+    ghost allowed = { λ s. allowancesOf (s .count) (rowAt (s .rows)) };
 
     fn count(&self) -> u32 {
         self.count
