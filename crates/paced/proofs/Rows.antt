@@ -11,7 +11,7 @@ use Rattle.std.proofs.shelf.Tests.{leb-true, leb-false, le-leb, lt-leb, cond-tr
 use Rattle.cycles.specs.Round.{sum, top, next, met, onward}
 use Rattle.cycles.proofs.Rounds.{top-least, top-at, top-rises, top-split, met-rises, met-least, next-within}
 use Rattle.paced.specs.Runs.{at, largest}
-use Rattle.paced.specs.Pace.{run, arrivals, demand, allowance, given, later, Fit}
+use Rattle.paced.specs.Pace.{run, arrivals, coming, demand, allowance, given, later, Fit}
 use Rattle.paced.specs.declared.row.Row.{Row}
 
 div-rises : (a b t : ℕ) → 0 < t → a ≤ b → a / t ≤ b / t
@@ -116,6 +116,6 @@ pub later-fit : (r : Row) → Fit r → Fit (later r)
 later-fit r fit = record { paces = fit .paces; places = (fit .places .0, fit .places .1, fit .places .2, omega (arith, fit .places)); costs = fit .costs }
 
 -- arrivals in a window of at least a tick
-pub arrivals-in : (r : Row) (l : ℕ) → (l ≡ 0 → ⊥) → arrivals r 0 l ≡ (r .jitter + (l - 1)) / r .period + 1
+pub arrivals-in : (r : Row) (l : ℕ) → (l ≡ 0 → ⊥) → arrivals r 0 l ≡ coming r l
 arrivals-in r zero h = absurd (h refl)
 arrivals-in r (suc l) h = ap (λ k. k / r .period + 1) (omega arith)

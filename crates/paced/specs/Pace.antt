@@ -24,6 +24,10 @@ abbrev pub arrivals : Row → ℕ → ℕ → ℕ
 arrivals r v zero = 0
 arrivals r v (suc l) = (r .jitter + l - v) / r .period + 1
 
+-- the same from level 0, over l ≥ 1 ticks
+abbrev pub coming : Row → ℕ → ℕ
+coming r l = (r .jitter + (l - 1)) / r .period + 1
+
 -- demand over l ticks, from the worst level and the worst place
 abbrev pub demand : Row → ℕ → ℕ
 demand r l = largest-run r (arrivals r 0 l)

@@ -46,11 +46,11 @@ impl Rack {
         if self.table.count() >= INTERRUPTS {
             return Err(Refusal::plain(Fault::TooMany));
         }
-        let mut table = self.table;
-        if let Err(fault) = table.add(period, jitter, costs) {
+        let mut grown = self.table;
+        if let Err(fault) = grown.add(period, jitter, costs) {
             return Err(Refusal::plain(fault));
         }
-        self.table = table;
+        self.table = grown;
         Ok(())
     }
 }
@@ -81,17 +81,17 @@ pub impl Gate for Rack as RackGate {
     ghost ticks = { λ s t. Passes (s .table .count) (s .table .rows) (t .table .count) (t .table .rows) };
 
     fn offer(&mut self, part: u32, units: u64) -> bool {
-        let mut table = self.table;
-        if !table.offer(part, units) {
+        let mut moved = self.table;
+        if !moved.offer(part, units) {
             return false;
         }
-        self.table = table;
+        self.table = moved;
         true
     }
 
     fn tick(&mut self) {
-        let mut table = self.table;
-        table.tick();
-        self.table = table;
+        let mut ticked = self.table;
+        ticked.tick();
+        self.table = ticked;
     }
 }

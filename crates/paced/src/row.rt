@@ -4,12 +4,13 @@ use refusal::Fault;
 ghost use Prim.Native.Nat.{ℕ, _+_, _-_, _*_, _/_, _%_, _^_, _<_, _≤_};
 ghost use mathlib.Core.Path.{_≡_};
 ghost use mathlib.Core.List.{_++_};
+ghost use lib.Dec.{leb};
 ghost use lib.ListN.{length, replicate};
 ghost use Rattle.std.specs.Results.{Cases};
 ghost use Rattle.std.specs.declared.option.Option.the-variants.{Some, None};
 ghost use Rattle.cycles.specs.Round.{sum, top, met};
 ghost use Rattle.paced.specs.Makes.{inRange, allInRange, given-right, fault-of, fresh};
-ghost use Rattle.paced.specs.Pace.{demand, allowance, given, later, Fit};
+ghost use Rattle.paced.specs.Pace.{coming, demand, allowance, given, later, Fit};
 ghost use Rattle.paced.specs.Runs.{at, largest};
 
 // Every number given is at most this.
@@ -35,7 +36,7 @@ pub fn in_range(x: u32) -> bool
 }
 
 // Whether each cost may be given.
-pub fn all_in_range(costs: &[u32]) -> bool
+fn all_in_range(costs: &[u32]) -> bool
     ensures { λ r. ⌜ r ≡ allInRange (now (costs .entry)) ⌝ }
 {
     for cost in costs {
@@ -47,10 +48,26 @@ pub fn all_in_range(costs: &[u32]) -> bool
 }
 
 // Whether period, jitter and costs are numbers that may be given.
-pub fn given_right(period: u32, jitter: u32, costs: &[u32]) -> bool
+fn given_right(period: u32, jitter: u32, costs: &[u32]) -> bool
     ensures { λ r. ⌜ r ≡ given-right period jitter (now (costs .entry)) ⌝ }
 {
     in_range(period) && jitter <= LARGEST && 1 <= costs.len() && all_in_range(costs)
+}
+
+// What is wrong with a paced part of these numbers, if anything is.
+pub fn pace_fault(period: u32, jitter: u32, costs: &[u32]) -> Option<Fault>
+    ensures { λ r. ⌜ r ≡ fault-of period jitter (now (costs .entry)) ⌝ }
+{
+    if costs.len() > 8 {
+        return Some(Fault::TooMany);
+    }
+    if !given_right(period, jitter, costs) {
+        return Some(Fault::OutOfRange);
+    }
+    if jitter >= period {
+        return Some(Fault::Misfit);
+    }
+    None
 }
 
 // Up to 8 costs in a table of 8, with 0 after the last.
@@ -103,14 +120,8 @@ impl Row {
         ensures fit { λ r. ⌜ Cases r (λ row. Fit row) (λ _. Unit {0}) ⌝ }
         ensures made { λ r. ⌜ Cases r (λ row. (fault-of period jitter (now (costs .entry)) ≡ None) × (row ≡ fresh period jitter (now (costs .entry)))) (λ fault. fault-of period jitter (now (costs .entry)) ≡ Some fault) ⌝ }
     {
-        if costs.len() > 8 {
-            return Err(Fault::TooMany);
-        }
-        if !given_right(period, jitter, costs) {
-            return Err(Fault::OutOfRange);
-        }
-        if jitter >= period {
-            return Err(Fault::Misfit);
+        if let Some(fault) = pace_fault(period, jitter, costs) {
+            return Err(fault);
         }
         let count = costs.len() as u32;
         let costs = padded(costs);
@@ -124,6 +135,23 @@ impl Row {
         })
     }
 
+    // How many costs can come in some ticks, at least one: one every period, all of them up to the jitter early.
+    fn arrivals(&self, ticks: u32) -> u32
+        requires fit { ⌜ Fit (now self) ⌝ }
+        requires some { ⌜ 1 ≤ ticks ⌝ }
+        requires window { ⌜ ticks ≤ 1000000 ⌝ }
+        ensures { λ r. ⌜ r ≡ coming (now (self .entry)) ticks ⌝ }
+    {
+        (self.jitter + (ticks - 1)) / self.period + 1
+    }
+
+    // Whether the next cost may be offered now.
+    fn is_open(&self) -> bool
+        ensures { λ r. ⌜ r ≡ leb (now (self .entry) .level) (now (self .entry) .jitter) ⌝ }
+    {
+        self.level <= self.jitter
+    }
+
     // The most that the row brings in any `ticks` ticks in a row.
     pub(crate) fn demand(&self, ticks: u32) -> u64
         requires fit { ⌜ Fit (now self) ⌝ }
@@ -133,10 +161,10 @@ impl Row {
         if ticks == 0 {
             return 0;
         }
-        let arrivals = (self.jitter + (ticks - 1)) / self.period + 1;
+        let come = self.arrivals(ticks);
         let costs = &self.costs[0..self.count as usize];
-        let rounds = arrivals / self.count;
-        let rest = arrivals % self.count;
+        let rounds = come / self.count;
+        let rest = come % self.count;
         u64::from(rounds) * u64::from(whole(costs)) + u64::from(largest_part(costs, rest))
     }
 
@@ -145,28 +173,26 @@ impl Row {
         requires { ⌜ Fit (now self) ⌝ }
         ensures { λ r. ⌜ r ≡ allowance (now (self .entry)) 1 ⌝ }
     {
-        if self.level <= self.jitter {
+        if self.is_open() {
             self.costs[self.place as usize]
         } else {
             0
         }
     }
 
-    // The row after an offer was taken.
-    pub(crate) fn given(mut self) -> Row
-        requires fit { ⌜ Fit self ⌝ }
-        ensures { λ r. ⌜ r ≡ given self ⌝ }
+    // An offer was taken.
+    pub(crate) fn give(&mut self)
+        requires { ⌜ Fit (now self) ⌝ }
+        ensures { λ _. ⌜ now (self .exit) ≡ given (now (self .entry)) ⌝ }
     {
         self.level += self.period;
         self.place = step(self.count, self.place);
-        self
     }
 
-    // The row a tick later.
-    pub(crate) fn later(mut self) -> Row
-        ensures { λ r. ⌜ r ≡ later self ⌝ }
+    // A tick passes.
+    pub(crate) fn lower(&mut self)
+        ensures { λ _. ⌜ now (self .exit) ≡ later (now (self .entry)) ⌝ }
     {
         self.level = self.level.saturating_sub(1);
-        self
     }
 }

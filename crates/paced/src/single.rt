@@ -1,6 +1,5 @@
 // One paced part by itself.
 use crate::row::Row;
-use cycles::step;
 use refusal::Refusal;
 use source::Gate;
 use source::LONGEST;
@@ -75,12 +74,11 @@ pub impl Gate for Paced as PacedGate {
         if part != 1 || units < 1 || units > u64::from(self.row.allowance()) {
             return false;
         }
-        self.row.level += self.row.period;
-        self.row.place = step(self.row.count, self.row.place);
+        self.row.give();
         true
     }
 
     fn tick(&mut self) {
-        self.row.level = self.row.level.saturating_sub(1);
+        self.row.lower();
     }
 }

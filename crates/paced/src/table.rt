@@ -61,9 +61,9 @@ impl Table {
             return Err(Fault::TooMany);
         }
         let row = Row::new(period, jitter, costs)?;
-        let mut rows = self.rows;
-        rows[self.count as usize] = row;
-        self.rows = rows;
+        let mut grown = self.rows;
+        grown[self.count as usize] = row;
+        self.rows = grown;
         self.count += 1;
         Ok(())
     }
@@ -105,20 +105,21 @@ pub impl Gate for Table as TableGate {
             return false;
         }
         let place = (part - 1) as usize;
-        let row = self.rows[place];
+        let mut row = self.rows[place];
         if units < 1 || units > u64::from(row.allowance()) {
             return false;
         }
-        let mut rows = self.rows;
-        rows[place] = row.given();
-        self.rows = rows;
+        row.give();
+        let mut moved = self.rows;
+        moved[place] = row;
+        self.rows = moved;
         true
     }
 
     fn tick(&mut self) {
         let mut rows = self.rows;
         for row in rows.iter_mut() {
-            *row = row.later();
+            row.lower();
         }
         self.rows = rows;
     }

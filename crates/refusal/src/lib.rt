@@ -37,7 +37,7 @@ pub enum Fault {
 }
 
 impl Fault {
-    // The number by which papers and listings know the fault.
+    // The number by which listings know the fault.
     pub fn number(self) -> u32
         ensures { λ r. ⌜ r ≡ row self .number ⌝ }
     {

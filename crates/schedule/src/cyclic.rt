@@ -101,6 +101,13 @@ impl Schedule {
         u64::from(cycles) * u64::from(self.whole) + u64::from(rest)
     }
 
+    // The phase a tick later: one on, and from the last of the cycle back to 0.
+    fn next_phase(&self) -> u32
+        ensures { λ r. ⌜ r ≡ next (now (self .entry) .cycle) (now (self .entry) .phase) ⌝ }
+    {
+        step(self.cycle, self.phase)
+    }
+
     // The most that may be offered now.
     fn open(&self) -> u32
         ensures { λ r. ⌜ r ≡ allowance (record { cycle = now (self .entry) .cycle; count = now (self .entry) .count; slots = now (self .entry) .slots; phase = now (self .entry) .phase; taken = now (self .entry) .taken }) 1 ⌝ }
@@ -154,7 +161,7 @@ pub impl Gate for Schedule as ScheduleGate {
     }
 
     fn tick(&mut self) {
-        self.phase = step(self.cycle, self.phase);
+        self.phase = self.next_phase();
         self.taken = false;
     }
 }

@@ -5,7 +5,7 @@ use mathlib.Core.Path.{_≡_, sym, ap, _∙_}
 use lib.ListN.{length}
 use Rattle.cycles.specs.Round.{sum}
 use Rattle.paced.specs.Runs.{at, largest}
-use Rattle.paced.specs.Pace.{demand, arrivals}
+use Rattle.paced.specs.Pace.{demand, arrivals, coming}
 use Rattle.paced.proofs.Runs.{front-length, front-small, front-sum, front-largest}
 use Rattle.paced.proofs.Rows.{demand-none, demand-split, arrivals-in}
 use Rattle.paced.proofs.row.Row.demand.Needs as need
@@ -29,16 +29,17 @@ largest-part-requires c κs =
     record {
       few = omega (arith, front-length (r .costs) (r .count) short);
       small = front-small (r .costs) (r .count) short (c .pre .fit .costs);
-      short = omega (arith, front-length (r .costs) (r .count) short, mod-lt ((r .jitter + (c .args .ticks - 1)) / r .period + 1) {m = r .count} (omega arith));
+      short = omega (arith, front-length (r .costs) (r .count) short, mod-lt (c .arrivals-come .result) {m = r .count} (omega arith));
     }
 
 pub returns : need.returns
 returns c =
     let r = c .args .self .now in
     let short : r .count ≤ length (r .costs) = omega arith in
-    let n = (r .jitter + (c .args .ticks - 1)) / r .period + 1 in
+    let n = coming r (c .args .ticks) in
     let come : arrivals r 0 (c .args .ticks) ≡ n = arrivals-in r (c .args .ticks) (c .if-ticks-eq0 .left) in
-    let rounds : c .from .result ≡ n / r .count = c .from .ensures in
+    let counted : c .arrivals-come .result ≡ n = c .arrivals-come .ensures in
+    let rounds : c .from .result ≡ n / r .count = c .from .ensures ∙ ap (λ m. m / r .count) counted in
     let round : c .from-2 .result ≡ sum (at (r .costs)) (r .count) = c .from-2 .ensures ∙ c .whole .ensures ∙ front-sum (r .costs) (r .count) short in
-    let rest : c .from-3 .result ≡ largest (r .count) (r .costs) (n % r .count) = c .from-3 .ensures ∙ c .largest-part .ensures ∙ front-largest (r .costs) (r .count) short (n % r .count) in
+    let rest : c .from-3 .result ≡ largest (r .count) (r .costs) (n % r .count) = c .from-3 .ensures ∙ c .largest-part .ensures ∙ front-largest (r .costs) (r .count) short (c .arrivals-come .result % r .count) ∙ ap (λ m. largest (r .count) (r .costs) (m % r .count)) counted in
     (λ i. rounds i * round i + rest i) ∙ ap (λ k. k / r .count * sum (at (r .costs)) (r .count) + largest (r .count) (r .costs) (k % r .count)) (sym come) ∙ sym (demand-split r (c .args .ticks) (c .pre .fit))

@@ -15,7 +15,7 @@ loop-row-again c =
     let s = c .args .self .now in
     let ys = c .loop-row .row-items in
     let i = c .loop-row .row-index in
-    ap (set ys i) (c .later .ensures) ∙ ticks-on (s .rows) ys i (omega arith) (c .loop-row .inv)
+    ap (set ys i) (c .lower .ensures) ∙ ticks-on (s .rows) ys i (omega arith) (c .loop-row .inv)
 
 pub ghost-self : need.ghost-self
 ghost-self c =
