@@ -154,3 +154,13 @@ met-same n f g i (suc m) h l = omega (arith, h i l, met-same n f g (next n i) m 
 pub top-same : (f g : ℕ → ℕ) (n : ℕ) → ((p : ℕ) → p < n → f p ≡ g p) → top f n ≡ top g n
 top-same f g zero h = refl
 top-same f g (suc n) h = omega (arith, top-same f g n (λ p l. h p (omega arith)), h n (omega arith))
+
+-- where m steps lead, for less than a round
+pub onward-at : (n i m : ℕ) → i < n → m < n → onward n i m ≡ cond (ltb (i + m) n) (i + m) (i + m - n)
+onward-at n i zero h l = grind (arith, tells)
+onward-at n i (suc m) h l =
+    let before : onward n i m ≡ cond (ltb (i + m) n) (i + m) (i + m - n) = onward-at n i m h (omega arith) in
+    onward-next n i m ∙ ap (next n) before ∙ wraps
+  where
+    wraps : next n (cond (ltb (i + m) n) (i + m) (i + m - n)) ≡ cond (ltb (i + suc m) n) (i + suc m) (i + suc m - n)
+    wraps = grind (arith, tells)

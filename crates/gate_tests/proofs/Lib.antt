@@ -1,2 +1,1 @@
-pub mod Offering
 pub mod Storing

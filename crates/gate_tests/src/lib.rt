@@ -1,4 +1,4 @@
-// A gate and a source that the libraries do not know, and one function that drives any gate.
+// A gate and a source that the libraries do not know, as another author would write them.
 use source::Gate;
 use source::LONGEST;
 use source::MOST_PARTS;
@@ -163,18 +163,6 @@ pub impl Source for Even as EvenSource {
         }
         Some(1)
     }
-}
-
-// Offers a part all that it may bring in this tick, and says how much that was: 0 for a number that is no part.
-pub fn offer_all<G: Gate>(bank: &mut G, part: u32) -> u64
-    ensures units { λ r. ⌜ r ≡ G·Source .allowed (now (bank .entry)) part 1 ⌝ }
-    ensures refused { λ r. ⌜ (r ≡ 0 → now (bank .exit) ≡ now (bank .entry)) ⌝ }
-    ensures takes { λ r. ⌜ (1 ≤ r → G·Gate .takes (now (bank .entry)) part r (now (bank .exit))) ⌝ }
-    ensures empty { λ _. ⌜ G·Source .allowed (now (bank .exit)) part 1 ≡ 0 ⌝ }
-    ensures kept { λ _. ⌜ Kept (G·Source .parts (now (bank .entry))) (G·Source .demanded (now (bank .entry))) (G·Source .parts (now (bank .exit))) (G·Source .demanded (now (bank .exit))) ⌝ }
-{
-    let units = bank.allowance(part).unwrap_or(0);
-    if bank.offer(part, units) { units } else { 0 }
 }
 
 #[cfg(test)]

@@ -14,6 +14,7 @@ use schedule::cyclic::ScheduleGate;
 use schedule::cyclic::ScheduleSource;
 use source::Gate;
 use source::Source;
+use source::offer_all;
 use source::pair::Pair;
 use source::pair::PairGate;
 use source::pair::PairSource;

@@ -9,7 +9,7 @@ use Rattle.std.proofs.shelf.Lists.{length-take-le, getD-take}
 use lib.Dec.{ltb}
 use Rattle.std.proofs.shelf.Tests.{lt-ltb}
 use Rattle.cycles.specs.Round.{sum, top, next, met, onward}
-use Rattle.cycles.proofs.Rounds.{top-on, met-slides, met-least, onward-next, onward-within, sum-same, met-same, top-same}
+use Rattle.cycles.proofs.Rounds.{top-on, met-slides, met-least, onward-at, onward-within, sum-same, met-same, top-same}
 use Rattle.paced.specs.Runs.{at, largest, largest-from}
 
 -- place i of a cycle of n, where a loop over the places stands; after the last it is the first again
@@ -19,26 +19,23 @@ turn n i = cond (ltb i n) i 0
 pub turn-at : (n i : ℕ) → i < n → turn n i ≡ i
 turn-at n i h = ap (λ b. cond b i 0) (lt-ltb i n h)
 
--- a window of m costs slides round the cycle: w is its sum and e the place after it, as place i is looked at, and b the
--- largest so far
-module _ (xs : List ℕ) (m i w e b : ℕ) (within : i < length xs) (w-is : w ≡ met (length xs) (at xs) (turn (length xs) i) m) (e-is : e ≡ onward (length xs) (turn (length xs) i) m) where
+-- a window of m costs slides round the cycle: w is its sum as place i is looked at, and b the largest so far
+module _ (xs : List ℕ) (m i w b : ℕ) (within : i < length xs) (short : m < length xs) (w-is : w ≡ met (length xs) (at xs) (turn (length xs) i) m) where
   w-here : w ≡ met (length xs) (at xs) i m
   w-here = w-is ∙ ap (λ k. met (length xs) (at xs) k m) (turn-at (length xs) i within)
-
-  e-here : e ≡ onward (length xs) i m
-  e-here = e-is ∙ ap (λ k. onward (length xs) k m) (turn-at (length xs) i within)
-
-  pub end-within : e < length xs
-  end-within = omega (arith, e-here, onward-within (length xs) i m within)
 
   pub window-small : ((p : ℕ) → at xs p ≤ 1000000) → w ≤ m * 1000000
   window-small h = omega (arith, w-here, met-least (length xs) (at xs) 1000000 i m h)
 
-  pub window-slides : w + at xs e ≡ at xs i + met (length xs) (at xs) (turn (length xs) (i + 1)) m
-  window-slides = omega (arith, w-here, ap (at xs) e-here, met-slides (length xs) (at xs) i m)
+  -- e is the place after the window
+  end-is : (e : ℕ) → e ≡ cond (ltb (i + m) (length xs)) (i + m) (i + m - length xs) → e ≡ onward (length xs) i m
+  end-is e p = p ∙ sym (onward-at (length xs) i m within short)
 
-  pub end-moves : next (length xs) e ≡ onward (length xs) (turn (length xs) (i + 1)) m
-  end-moves = ap (next (length xs)) e-here ∙ sym (onward-next (length xs) i m)
+  pub end-within : (e : ℕ) → e ≡ cond (ltb (i + m) (length xs)) (i + m) (i + m - length xs) → e < length xs
+  end-within e p = omega (arith, end-is e p, onward-within (length xs) i m within)
+
+  pub window-slides : (e : ℕ) → e ≡ cond (ltb (i + m) (length xs)) (i + m) (i + m - length xs) → w + at xs e ≡ at xs i + met (length xs) (at xs) (turn (length xs) (i + 1)) m
+  window-slides e p = omega (arith, w-here, ap (at xs) (end-is e p), met-slides (length xs) (at xs) i m)
 
   pub best-grows : b ≡ largest-from (length xs) xs m i → max b w ≡ largest-from (length xs) xs m (i + 1)
   best-grows h = omega (arith, h, w-here, top-on (λ p. met (length xs) (at xs) p m) i)
@@ -75,3 +72,6 @@ module _ (xs : List ℕ) (n : ℕ) (short : n ≤ length xs) where
   front-largest m =
       ap (λ k. largest k (take (n - 0) xs) m) front-length
       ∙ top-same (λ i. met n (at (take (n - 0) xs)) i m) (λ i. met n (at xs) i m) n (λ p l. met-same n (at (take (n - 0) xs)) (at xs) p m front-at l)
+
+  pub front-top : top (at (take (n - 0) xs)) (length (take (n - 0) xs)) ≡ top (at xs) n
+  front-top = ap (top (at (take (n - 0) xs))) front-length ∙ top-same (at (take (n - 0) xs)) (at xs) n front-at

@@ -18,6 +18,10 @@ run r i m = met (r .count) (at (r .costs)) i m
 abbrev pub largest-run : Row → ℕ → ℕ
 largest-run r m = largest (r .count) (r .costs) m
 
+-- the largest cost
+abbrev pub largest-cost : Row → ℕ
+largest-cost r = top (at (r .costs)) (r .count)
+
 -- how many costs can come in l ticks if the level is v, and v is at most J + l - 1: one every T ticks, all of them up
 -- to J ticks early
 abbrev pub arrivals : Row → ℕ → ℕ → ℕ

@@ -4,14 +4,15 @@ use refusal::Fault;
 ghost use Prim.Native.Nat.{ℕ, _+_, _-_, _*_, _/_, _%_, _^_, _<_, _≤_};
 ghost use mathlib.Core.Path.{_≡_};
 ghost use mathlib.Core.List.{_++_};
-ghost use lib.Dec.{leb};
+ghost use lib.Dec.{leb, ltb};
+ghost use mathlib.Core.Bool.{cond};
 ghost use lib.ListN.{length, replicate};
 ghost use Rattle.std.specs.Results.{Cases};
 ghost use Rattle.std.specs.declared.option.Option.the-variants.{Some, None};
 ghost use Rattle.cycles.specs.Round.{sum, top, met};
 ghost use Rattle.paced.specs.Makes.{inRange, allInRange, given-right, fault-of, fresh};
-ghost use Rattle.paced.specs.Pace.{coming, demand, allowance, given, later, Fit};
-ghost use Rattle.paced.specs.Runs.{at, largest};
+ghost use Rattle.paced.specs.Pace.{largest-cost, coming, demand, allowance, given, later, Fit};
+ghost use Rattle.paced.specs.Runs.{at, largest as largest-sum};
 
 // Every number given is at most this.
 pub const LARGEST: u32 = 1_000_000;
@@ -95,23 +96,56 @@ fn whole(costs: &[u32]) -> u32
     all
 }
 
+// The largest of some costs.
+fn largest(costs: &[u32]) -> u32
+    ensures { λ r. ⌜ r ≡ top (at (now (costs .entry))) (length (now (costs .entry))) ⌝ }
+{
+    let mut most = 0;
+    for cost in costs {
+        most = most.max(*cost);
+    }
+    most
+}
+
+// A place at most a round past the last, back within the cycle.
+fn wrapped(size: usize, place: usize) -> usize
+    ensures { λ r. ⌜ r ≡ cond (ltb place size) place (place - size) ⌝ }
+{
+    if place < size { place } else { place - size }
+}
+
 // The largest sum of `m` successive costs from any place, where that is less than a round.
 fn largest_part(costs: &[u32], m: u32) -> u32
     requires few { ⌜ length (now costs) ≤ 8 ⌝ }
     requires small { ⌜ ((i : ℕ) → at (now costs) i ≤ 1000000) ⌝ }
     requires short { ⌜ m < length (now costs) ⌝ }
-    ensures { λ r. ⌜ r ≡ largest (length (now (costs .entry))) (now (costs .entry)) m ⌝ }
+    ensures { λ r. ⌜ r ≡ largest-sum (length (now (costs .entry))) (now (costs .entry)) m ⌝ }
 {
-    let size = costs.len() as u32;
     let mut window = whole(&costs[0..m as usize]);
-    let mut end = m;
     let mut best = 0;
     for (place, cost) in costs.iter().enumerate() {
         best = best.max(window);
-        window = window + costs[end as usize] - *cost;
-        end = step(size, end);
+        let end = wrapped(costs.len(), place + m as usize);
+        window = window + costs[end] - *cost;
     }
     best
+}
+
+// A row of these numbers, with level and place 0.
+fn fresh_row(period: u32, jitter: u32, costs: &[u32]) -> Row
+    requires { ⌜ length (now costs) ≤ 8 ⌝ }
+    ensures { λ r. ⌜ r ≡ fresh period jitter (now (costs .entry)) ⌝ }
+{
+    let count = costs.len() as u32;
+    let costs = padded(costs);
+    Row {
+        period,
+        jitter,
+        count,
+        costs,
+        level: 0,
+        place: 0,
+    }
 }
 
 impl Row {
@@ -123,16 +157,15 @@ impl Row {
         if let Some(fault) = pace_fault(period, jitter, costs) {
             return Err(fault);
         }
-        let count = costs.len() as u32;
-        let costs = padded(costs);
-        Ok(Row {
-            period,
-            jitter,
-            count,
-            costs,
-            level: 0,
-            place: 0,
-        })
+        Ok(fresh_row(period, jitter, costs))
+    }
+
+    // The largest cost.
+    pub(crate) fn largest_cost(&self) -> u32
+        requires { ⌜ Fit (now self) ⌝ }
+        ensures { λ r. ⌜ r ≡ largest-cost (now (self .entry)) ⌝ }
+    {
+        largest(&self.costs[0..self.count as usize])
     }
 
     // How many costs can come in some ticks, at least one: one every period, all of them up to the jitter early.

@@ -1,5 +1,6 @@
 // A table of paced parts: plain rows, of which the table says what they keep to.
 use crate::row::Row;
+use crate::row::pace_fault;
 use refusal::Fault;
 use source::Gate;
 use source::LONGEST;
@@ -13,7 +14,7 @@ ghost use Rattle.std.specs.Results.{Cases};
 ghost use Rattle.std.specs.declared.option.Option.the-variants.{Some, None};
 ghost use Rattle.source.specs.Facts.{isPart, offerable, Sound, Kept, Taken, Ticked, Driven};
 ghost use Rattle.paced.specs.Makes.{adding, fresh, unused};
-ghost use Rattle.paced.specs.Pace.{Paces, Places, Costs};
+ghost use Rattle.paced.specs.Pace.{Paces, Places, Costs, largest-cost};
 ghost use Rattle.paced.specs.Tables.{rowAt, demandsOf, allowancesOf, Gives, Passes};
 
 // How many rows a table has room for.
@@ -50,6 +51,26 @@ impl Table {
             rows: [unused; 16],
             count: 0,
         }
+    }
+
+    // What is wrong with one part more, if anything is.
+    pub fn fault(&self, period: u32, jitter: u32, costs: &[u32]) -> Option<Fault>
+        ensures { λ r. ⌜ r ≡ adding 16 (now (self .entry) .count) period jitter (now (costs .entry)) ⌝ }
+    {
+        if self.count >= ROOM {
+            return Some(Fault::TooMany);
+        }
+        pace_fault(period, jitter, costs)
+    }
+
+    // The largest cost of a part, or None if there is no such part.
+    pub fn largest_cost(&self, part: u32) -> Option<u32>
+        ensures { λ r. ⌜ r ≡ cond (isPart (now (self .entry) .count) part) (Some (largest-cost (rowAt (now (self .entry) .rows) (part - 1)))) None ⌝ }
+    {
+        if part < 1 || part > self.count {
+            return None;
+        }
+        Some(self.rows[(part - 1) as usize].largest_cost())
     }
 
     // One part more behind the others, with level and place 0, or what is wrong: no room or more than 8 costs; a period

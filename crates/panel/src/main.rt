@@ -9,6 +9,7 @@ use schedule::cyclic::ScheduleGate;
 use schedule::cyclic::ScheduleSource;
 use source::Gate;
 use source::Source;
+use source::offer_all;
 use source::pair::Pair;
 use source::pair::PairGate;
 use source::pair::PairSource;
@@ -39,12 +40,6 @@ fn print_window<S: Source>(rt: &LibcRuntime, bank: &S, ticks: u32) -> io::Result
         all = all.saturating_add(units);
     }
     println!(rt, " bank {all}")
-}
-
-// Offers a part all that it may bring now, and returns what it took.
-fn offer_all<G: Gate>(bank: &mut G, part: u32) -> u64 {
-    let units = bank.allowance(part).unwrap_or(0);
-    if bank.offer(part, units) { units } else { 0 }
 }
 
 // What each part lets in over some ticks, if every part brings all that it may before each tick.
@@ -78,7 +73,7 @@ fn main(rt: LibcRuntime) -> io::Result<()> {
     for part in 1..=bank.count() {
         let sum = all.get((part - 1) as usize).copied().unwrap_or(0);
         let demand = bank.demand(part, WINDOW).unwrap_or(0);
-        println!(rt, "part {part} let in {sum} demand {demand}")?;
+        println!(rt, "part {part} let in {sum}, demand: {demand}")?;
     }
     Ok(())
 }

@@ -1,6 +1,9 @@
 -- The table of refusals: for each fault its number, its layer, and whether it has a line of the sheet and a task.
 use Prim.Native.Nat.{ℕ}
 use mathlib.Core.Bool.{Bool, true, false, cond}
+use lib.Dec.{leb}
+use Rattle.std.specs.declared.option.Option.{Option}
+use Rattle.std.specs.declared.option.Option.the-variants.{Some, None}
 use Rattle.refusal.specs.declared.Fault.{Fault}
 use Rattle.refusal.specs.declared.Fault.the-variants.{SheetTooLong, ForeignByte, BadWord, BadLine, TooMany, OutOfRange, Misfit, HoldAboveBlocking, NotJudgeable, NoWindow, NotAccepted, NoSuchNumber, UnitsNotAllowed, BacklogFull, HoldNotGranted, NothingToEnd, JobPending, BufferTooShort}
 use Rattle.refusal.specs.declared.Layer.{Layer}
@@ -42,3 +45,9 @@ pub record Told : Type 0 where
 
 abbrev pub told : Fault → ℕ → ℕ → Told
 told f line task = record { number = row f .number; layer = row f .layer; line = cond (row f .lined) line 0; task = cond (row f .tasked) task 0 }
+
+-- of two faults that may be there, the one with the smaller number
+abbrev pub first-of : Option Fault → Option Fault → Option Fault
+first-of None b = b
+first-of (Some f) None = Some f
+first-of (Some f) (Some g) = cond (leb (row f .number) (row g .number)) (Some f) (Some g)

@@ -1,6 +1,6 @@
 // Why a call or a sheet is refused: the fault, and the line and the task that it is about.
 ghost use mathlib.Core.Path.{_≡_};
-ghost use Rattle.refusal.specs.Table.{row, told};
+ghost use Rattle.refusal.specs.Table.{row, told, first-of};
 
 // The stage that refuses: reading words, reading lines, filling a plan, judging it, running it, or writing a listing.
 #[derive(Clone, Copy, PartialEq, Eq, Debug)]
@@ -98,6 +98,23 @@ impl Fault {
             Fault::NoWindow | Fault::UnitsNotAllowed => true,
             Fault::HoldNotGranted | Fault::NothingToEnd | Fault::JobPending => true,
             _ => false,
+        }
+    }
+}
+
+// Of two faults that may be there, the one with the smaller number: where several rules are broken, it is given.
+pub fn first_fault(a: Option<Fault>, b: Option<Fault>) -> Option<Fault>
+    ensures { λ r. ⌜ r ≡ first-of a b ⌝ }
+{
+    match (a, b) {
+        (None, found) => found,
+        (Some(f), None) => Some(f),
+        (Some(f), Some(g)) => {
+            if f.number() <= g.number() {
+                Some(f)
+            } else {
+                Some(g)
+            }
         }
     }
 }

@@ -1,5 +1,5 @@
 // Work that goes before all tasks: what a source answers, how a gate is driven, and two of them side by side.
-ghost use Prim.Native.Nat.{ℕ};
+ghost use Prim.Native.Nat.{ℕ, _≤_};
 ghost use mathlib.Core.Path.{_≡_};
 ghost use mathlib.Core.Bool.{true, false, cond, _&&_};
 ghost use lib.Dec.{leb};
@@ -64,4 +64,16 @@ pub trait Gate: Source {
         ensures ticks { λ _. ⌜ ticks (now (self .entry)) (now (self .exit)) ⌝ }
         ensures ticked { λ _. ⌜ Ticked (Self·Source .allowed (now (self .entry))) (Self·Source .allowed (now (self .exit))) ⌝ }
         ensures kept { λ _. ⌜ Kept (Self·Source .parts (now (self .entry))) (Self·Source .demanded (now (self .entry))) (Self·Source .parts (now (self .exit))) (Self·Source .demanded (now (self .exit))) ⌝ };
+}
+
+// Offers a part all that it may bring in this tick, and says how much that was: 0 for a number that is no part.
+pub fn offer_all<G: Gate>(bank: &mut G, part: u32) -> u64
+    ensures units { λ r. ⌜ r ≡ G·Source .allowed (now (bank .entry)) part 1 ⌝ }
+    ensures refused { λ r. ⌜ (r ≡ 0 → now (bank .exit) ≡ now (bank .entry)) ⌝ }
+    ensures takes { λ r. ⌜ (1 ≤ r → G·Gate .takes (now (bank .entry)) part r (now (bank .exit))) ⌝ }
+    ensures empty { λ _. ⌜ G·Source .allowed (now (bank .exit)) part 1 ≡ 0 ⌝ }
+    ensures kept { λ _. ⌜ Kept (G·Source .parts (now (bank .entry))) (G·Source .demanded (now (bank .entry))) (G·Source .parts (now (bank .exit))) (G·Source .demanded (now (bank .exit))) ⌝ }
+{
+    let units = bank.allowance(part).unwrap_or(0);
+    if bank.offer(part, units) { units } else { 0 }
 }

@@ -1,7 +1,7 @@
 use native.Mathlib.Omega.{arith}
 use mathlib.Core.Path.{_≡_, sym, ap, _∙_}
-use Rattle.gate_tests.proofs.Offering.{all-is, none-left}
-use Rattle.gate_tests.proofs.offer_all.Needs as need
+use Rattle.source.proofs.Offering.{all-is, none-left}
+use Rattle.source.proofs.offer_all.Needs as need
 
 pub returns-else-offer : need.returns-else-offer
 returns-else-offer g c =
