@@ -1,8 +1,11 @@
 // Shows what a panel's bank asks for: the demand of each part and of the whole bank over windows of 1 to 24 ticks, and
-// what comes in over 24 ticks if every part brings all that it may.
+// what comes in over 24 ticks if every part brings all that it may. Then judges two plans over that bank.
 use paced::rack::Rack;
 use paced::rack::RackGate;
 use paced::rack::RackSource;
+use plan::stages::OpenPlan;
+use plan::tasks::Limit;
+use plan::verdict::Verdict;
 use refusal::Refusal;
 use schedule::cyclic::Schedule;
 use schedule::cyclic::ScheduleGate;
@@ -61,6 +64,52 @@ fn drive<G: Gate>(heap: Global, bank: &mut G, ticks: u32) -> Result<Vec<u64>, Al
     Ok(all)
 }
 
+// A plan over the bank with two tasks, the first with this deadline.
+fn plan(deadline: u32) -> Result<OpenPlan<Pair<Rack, Schedule>>, Refusal> {
+    let mut plan = OpenPlan::new(bank()?);
+    plan.add(
+        40,
+        0,
+        Limit {
+            blocking: 2,
+            deadline,
+            hold: 0,
+        },
+        &[2],
+    )?;
+    plan.add(
+        60,
+        5,
+        Limit {
+            blocking: 0,
+            deadline: 40,
+            hold: 2,
+        },
+        &[3, 1],
+    )?;
+    Ok(plan)
+}
+
+// Judges that plan, and prints the verdict and the bounds.
+fn print_verdict(rt: &LibcRuntime, deadline: u32) -> io::Result<()> {
+    let Ok(plan) = plan(deadline) else {
+        return println!(rt, "this plan cannot be made");
+    };
+    let judged = plan.judge();
+    println!(rt, "deadline {deadline} of task 1")?;
+    match judged.verdict() {
+        Verdict::Accepted(tasks) => println!(rt, "accepted {tasks}")?,
+        Verdict::NotJudgeable => println!(rt, "refused {}", judged.verdict().number())?,
+        Verdict::Late(task) => println!(rt, "refused {} task {task}", judged.verdict().number())?,
+    }
+    let mut bounds = [0; 16];
+    let count = judged.bounds(&mut bounds);
+    for (place, bound) in bounds.iter().take(count).enumerate() {
+        println!(rt, "task {} bound {bound}", place.saturating_add(1))?;
+    }
+    Ok(())
+}
+
 fn main(rt: LibcRuntime) -> io::Result<()> {
     let Ok(mut bank) = bank() else {
         return println!(rt, "this bank cannot be made");
@@ -75,5 +124,6 @@ fn main(rt: LibcRuntime) -> io::Result<()> {
         let demand = bank.demand(part, WINDOW).unwrap_or(0);
         println!(rt, "part {part} let in {sum}, demand: {demand}")?;
     }
-    Ok(())
+    print_verdict(&rt, 15)?;
+    print_verdict(&rt, 10)
 }

@@ -1,0 +1,5 @@
+pub mod Adding
+pub mod Bearing
+pub mod Bounds
+pub mod Climbing
+pub mod Totals
