@@ -10,20 +10,20 @@ use Rattle.lines.proofs.reading.at_row.Goals as goal
 abbrev row : Option (List ℕ) → Option Row
 row o = row-said (said (Some At) o)
 
-pub returns-in-err-offset : goal.returns-in-err-offset
-returns-in-err-offset c =
-    c.from-residual.ensures
-    ∙ sym (number-missing row c.args.rest.now None refl refl c.in-err-offset.ensures)
+pub returns-in_err-offset : goal.returns-in_err-offset
+returns-in_err-offset c =
+    c.from_residual.ensures
+    ∙ sym (number-missing row c.args.rest.now None refl refl c.in_err-offset.ensures)
 
-pub returns-in-err-length : goal.returns-in-err-length
-returns-in-err-length c =
-    c.from-residual-in-err-length.ensures
-    ∙ sym (number-on row c.args.rest.now c.in-ok-offset.rest.now c.in-ok-offset.offset c.in-ok-offset.ensures.0 c.in-ok-offset.ensures.1
-    ∙ number-missing (λ o. row (followed-by (Some c.in-ok-offset.offset) o)) c.in-ok-offset.rest.now None refl refl c.in-err-length.ensures)
+pub returns-in_err-length : goal.returns-in_err-length
+returns-in_err-length c =
+    c.from_residual-in_err-length.ensures
+    ∙ sym (number-on row c.args.rest.now c.in_ok-offset.rest.now c.in_ok-offset.offset c.in_ok-offset.ensures.0 c.in_ok-offset.ensures.1
+    ∙ number-missing (λ o. row (followed-by (Some c.in_ok-offset.offset) o)) c.in_ok-offset.rest.now None refl refl c.in_err-length.ensures)
 
 pub returns : goal.returns
 returns c =
     c.ended.ensures
-    ∙ sym (number-on row c.args.rest.now c.in-ok-offset.rest.now c.in-ok-offset.offset c.in-ok-offset.ensures.0 c.in-ok-offset.ensures.1
-    ∙ number-on (λ o. row (followed-by (Some c.in-ok-offset.offset) o)) c.in-ok-offset.rest.now c.in-ok-length.rest.now c.in-ok-length.length c.in-ok-length.ensures.0 c.in-ok-length.ensures.1
-    ∙ number-end (λ o. row (followed-by (Some c.in-ok-offset.offset) (followed-by (Some c.in-ok-length.length) o))) c.in-ok-length.rest.now None refl (λ n ns. refl))
+    ∙ sym (number-on row c.args.rest.now c.in_ok-offset.rest.now c.in_ok-offset.offset c.in_ok-offset.ensures.0 c.in_ok-offset.ensures.1
+    ∙ number-on (λ o. row (followed-by (Some c.in_ok-offset.offset) o)) c.in_ok-offset.rest.now c.in_ok-length.rest.now c.in_ok-length.length c.in_ok-length.ensures.0 c.in_ok-length.ensures.1
+    ∙ number-end (λ o. row (followed-by (Some c.in_ok-offset.offset) (followed-by (Some c.in_ok-length.length) o))) c.in_ok-length.rest.now None refl (λ n ns. refl))

@@ -10,13 +10,13 @@ use Rattle.lines.proofs.reading.cycle_row.Goals as goal
 abbrev row : Option (List ℕ) → Option Row
 row o = row-said (said (Some Cycle) o)
 
-pub returns-in-err-length : goal.returns-in-err-length
-returns-in-err-length c =
-    c.from-residual.ensures
-    ∙ sym (number-missing row c.args.rest.now None refl refl c.in-err-length.ensures)
+pub returns-in_err-length : goal.returns-in_err-length
+returns-in_err-length c =
+    c.from_residual.ensures
+    ∙ sym (number-missing row c.args.rest.now None refl refl c.in_err-length.ensures)
 
 pub returns : goal.returns
 returns c =
     c.ended.ensures
-    ∙ sym (number-on row c.args.rest.now c.in-ok-length.rest.now c.in-ok-length.length c.in-ok-length.ensures.0 c.in-ok-length.ensures.1
-    ∙ number-end (λ o. row (followed-by (Some c.in-ok-length.length) o)) c.in-ok-length.rest.now None refl (λ n ns. refl))
+    ∙ sym (number-on row c.args.rest.now c.in_ok-length.rest.now c.in_ok-length.length c.in_ok-length.ensures.0 c.in_ok-length.ensures.1
+    ∙ number-end (λ o. row (followed-by (Some c.in_ok-length.length) o)) c.in_ok-length.rest.now None refl (λ n ns. refl))

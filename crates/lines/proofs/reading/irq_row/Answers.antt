@@ -11,25 +11,25 @@ use Rattle.lines.proofs.reading.irq_row.Goals as goal
 abbrev row : Option (List ℕ) → Option Row
 row o = row-said (said (Some Irq) o)
 
-pub returns-in-err-period : goal.returns-in-err-period
-returns-in-err-period c =
-    c.from-residual.ensures
-    ∙ sym (number-missing row c.args.rest.now None refl refl c.in-err-period.ensures)
+pub returns-in_err-period : goal.returns-in_err-period
+returns-in_err-period c =
+    c.from_residual.ensures
+    ∙ sym (number-missing row c.args.rest.now None refl refl c.in_err-period.ensures)
 
-pub returns-in-err-jitter : goal.returns-in-err-jitter
-returns-in-err-jitter c =
-    c.from-residual-in-err-jitter.ensures
-    ∙ sym (number-on row c.args.rest.now c.in-ok-period.rest.now c.in-ok-period.period c.in-ok-period.ensures.0 c.in-ok-period.ensures.1
-    ∙ number-missing (λ o. row (followed-by (Some c.in-ok-period.period) o)) c.in-ok-period.rest.now None refl refl c.in-err-jitter.ensures)
+pub returns-in_err-jitter : goal.returns-in_err-jitter
+returns-in_err-jitter c =
+    c.from_residual-in_err-jitter.ensures
+    ∙ sym (number-on row c.args.rest.now c.in_ok-period.rest.now c.in_ok-period.period c.in_ok-period.ensures.0 c.in_ok-period.ensures.1
+    ∙ number-missing (λ o. row (followed-by (Some c.in_ok-period.period) o)) c.in_ok-period.rest.now None refl refl c.in_err-jitter.ensures)
 
-pub returns-in-err-costs : goal.returns-in-err-costs
-returns-in-err-costs c =
-    c.from-residual-in-err-costs.ensures
-    ∙ sym (number-on row c.args.rest.now c.in-ok-period.rest.now c.in-ok-period.period c.in-ok-period.ensures.0 c.in-ok-period.ensures.1
-    ∙ number-on (λ o. row (followed-by (Some c.in-ok-period.period) o)) c.in-ok-period.rest.now c.in-ok-jitter.after.now c.in-ok-jitter.jitter c.in-ok-jitter.ensures.0 c.in-ok-jitter.ensures.1
-    ∙ no-costs (λ o. row (followed-by (Some c.in-ok-period.period) (followed-by (Some c.in-ok-jitter.jitter) o))) refl refl (numbers_after c.in-ok-jitter.after.now) c.in-err-costs.ensures)
+pub returns-in_err-costs : goal.returns-in_err-costs
+returns-in_err-costs c =
+    c.from_residual-in_err-costs.ensures
+    ∙ sym (number-on row c.args.rest.now c.in_ok-period.rest.now c.in_ok-period.period c.in_ok-period.ensures.0 c.in_ok-period.ensures.1
+    ∙ number-on (λ o. row (followed-by (Some c.in_ok-period.period) o)) c.in_ok-period.rest.now c.in_ok-jitter.after.now c.in_ok-jitter.jitter c.in_ok-jitter.ensures.0 c.in_ok-jitter.ensures.1
+    ∙ no-costs (λ o. row (followed-by (Some c.in_ok-period.period) (followed-by (Some c.in_ok-jitter.jitter) o))) refl refl (numbers_after c.in_ok-jitter.after.now) c.in_err-costs.ensures)
 
 pub returns : goal.returns
-returns c = sym (number-on row c.args.rest.now c.in-ok-period.rest.now c.in-ok-period.period c.in-ok-period.ensures.0 c.in-ok-period.ensures.1
-    ∙ number-on (λ o. row (followed-by (Some c.in-ok-period.period) o)) c.in-ok-period.rest.now c.in-ok-jitter.after.now c.in-ok-jitter.jitter c.in-ok-jitter.ensures.0 c.in-ok-jitter.ensures.1
-    ∙ with-costs (λ o. row (followed-by (Some c.in-ok-period.period) (followed-by (Some c.in-ok-jitter.jitter) o))) (rows.Irq c.in-ok-period.period c.in-ok-jitter.jitter) (λ n ns. refl) (numbers_after c.in-ok-jitter.after.now) c.in-ok-costs.costs c.in-ok-costs.ensures)
+returns c = sym (number-on row c.args.rest.now c.in_ok-period.rest.now c.in_ok-period.period c.in_ok-period.ensures.0 c.in_ok-period.ensures.1
+    ∙ number-on (λ o. row (followed-by (Some c.in_ok-period.period) o)) c.in_ok-period.rest.now c.in_ok-jitter.after.now c.in_ok-jitter.jitter c.in_ok-jitter.ensures.0 c.in_ok-jitter.ensures.1
+    ∙ with-costs (λ o. row (followed-by (Some c.in_ok-period.period) (followed-by (Some c.in_ok-jitter.jitter) o))) (rows.Irq c.in_ok-period.period c.in_ok-jitter.jitter) (λ n ns. refl) (numbers_after c.in_ok-jitter.after.now) c.in_ok-costs.costs c.in_ok-costs.ensures)

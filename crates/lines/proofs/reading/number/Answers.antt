@@ -7,4 +7,4 @@ returns c =
     let some : 1 ≤ length c.args.rest.now = search rules in
     let e = front_of c.args.rest.now some in
     let f = behind-of c.args.rest.now some in
-    rw (e, f) c.first-number.ensures
+    rw (e, f) c.first_number.ensures

@@ -8,20 +8,20 @@ use Rattle.lines.proofs.Ruling.{told-row}
 use Rattle.lines.proofs.Written.{line-rule}
 use Rattle.lines.proofs.reading.row_of.Goals as goal
 
-pub returns-in-err-check-line : goal.returns-in-err-check-line
-returns-in-err-check-line c =
+pub returns-in_err-check_line : goal.returns-in_err-check_line
+returns-in_err-check_line c =
     let line = c.args.line.bytes.now in
-    let p = err_from_is_err_and c.from-residual.result c.from-residual.ensures.1 in
+    let p = err_from_is_err_and c.from_residual.result c.from_residual.ensures.1 in
     record {
-      row = p.1 ∙ ap Err p.2 ∙ sym (ap (λ f. row_told (told_of f (said-by (pieces 32 line)))) c.in-err-check-line.ensures.fault);
+      row = p.1 ∙ ap Err p.2 ∙ sym (ap (λ f. row_told (told_of f (said-by (pieces 32 line)))) c.in_err-check_line.ensures.fault);
       rule = line-rule line;
     }
 
 pub returns : goal.returns
 returns c =
     let line = c.args.line.bytes.now in
-    let good = c.in-ok-check-line.ensures.fault in
+    let good = c.in_ok-check_line.ensures.fault in
     record {
-      row = c.ok-or.ensures.value ∙ ap (λ o. ok_or o BadLine) c.said-by.ensures ∙ told-row (said-by (pieces 32 line)) ∙ ap (λ f. row_told (told_of f (said-by (pieces 32 line)))) (sym good);
+      row = c.ok_or.ensures.value ∙ ap (λ o. ok_or o BadLine) c.said_by.ensures ∙ told-row (said-by (pieces 32 line)) ∙ ap (λ f. row_told (told_of f (said-by (pieces 32 line)))) (sym good);
       rule = line-rule line;
     }

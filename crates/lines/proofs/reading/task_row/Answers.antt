@@ -11,55 +11,55 @@ use Rattle.lines.proofs.reading.task_row.Goals as goal
 abbrev row : Option (List ℕ) → Option Row
 row o = row-said (said (Some Task) o)
 
-pub returns-in-err-period : goal.returns-in-err-period
-returns-in-err-period c =
-    c.from-residual.ensures
-    ∙ sym (number-missing row c.args.rest.now None refl refl c.in-err-period.ensures)
+pub returns-in_err-period : goal.returns-in_err-period
+returns-in_err-period c =
+    c.from_residual.ensures
+    ∙ sym (number-missing row c.args.rest.now None refl refl c.in_err-period.ensures)
 
-pub returns-in-err-jitter : goal.returns-in-err-jitter
-returns-in-err-jitter c =
-    c.from-residual-in-err-jitter.ensures
-    ∙ sym (number-on row c.args.rest.now c.in-ok-period.rest.now c.in-ok-period.period c.in-ok-period.ensures.0 c.in-ok-period.ensures.1
-    ∙ number-missing (λ o. row (followed-by (Some c.in-ok-period.period) o)) c.in-ok-period.rest.now None refl refl c.in-err-jitter.ensures)
+pub returns-in_err-jitter : goal.returns-in_err-jitter
+returns-in_err-jitter c =
+    c.from_residual-in_err-jitter.ensures
+    ∙ sym (number-on row c.args.rest.now c.in_ok-period.rest.now c.in_ok-period.period c.in_ok-period.ensures.0 c.in_ok-period.ensures.1
+    ∙ number-missing (λ o. row (followed-by (Some c.in_ok-period.period) o)) c.in_ok-period.rest.now None refl refl c.in_err-jitter.ensures)
 
-pub returns-in-err-blocking : goal.returns-in-err-blocking
-returns-in-err-blocking c =
-    c.from-residual-in-err-blocking.ensures
-    ∙ sym (number-on row c.args.rest.now c.in-ok-period.rest.now c.in-ok-period.period c.in-ok-period.ensures.0 c.in-ok-period.ensures.1
-    ∙ number-on (λ o. row (followed-by (Some c.in-ok-period.period) o)) c.in-ok-period.rest.now c.in-ok-jitter.rest.now c.in-ok-jitter.jitter c.in-ok-jitter.ensures.0 c.in-ok-jitter.ensures.1
-    ∙ number-missing (λ o. row (followed-by (Some c.in-ok-period.period) (followed-by (Some c.in-ok-jitter.jitter) o))) c.in-ok-jitter.rest.now None refl refl c.in-err-blocking.ensures)
+pub returns-in_err-blocking : goal.returns-in_err-blocking
+returns-in_err-blocking c =
+    c.from_residual-in_err-blocking.ensures
+    ∙ sym (number-on row c.args.rest.now c.in_ok-period.rest.now c.in_ok-period.period c.in_ok-period.ensures.0 c.in_ok-period.ensures.1
+    ∙ number-on (λ o. row (followed-by (Some c.in_ok-period.period) o)) c.in_ok-period.rest.now c.in_ok-jitter.rest.now c.in_ok-jitter.jitter c.in_ok-jitter.ensures.0 c.in_ok-jitter.ensures.1
+    ∙ number-missing (λ o. row (followed-by (Some c.in_ok-period.period) (followed-by (Some c.in_ok-jitter.jitter) o))) c.in_ok-jitter.rest.now None refl refl c.in_err-blocking.ensures)
 
-pub returns-in-err-deadline : goal.returns-in-err-deadline
-returns-in-err-deadline c =
-    c.from-residual-in-err-deadline.ensures
-    ∙ sym (number-on row c.args.rest.now c.in-ok-period.rest.now c.in-ok-period.period c.in-ok-period.ensures.0 c.in-ok-period.ensures.1
-    ∙ number-on (λ o. row (followed-by (Some c.in-ok-period.period) o)) c.in-ok-period.rest.now c.in-ok-jitter.rest.now c.in-ok-jitter.jitter c.in-ok-jitter.ensures.0 c.in-ok-jitter.ensures.1
-    ∙ number-on (λ o. row (followed-by (Some c.in-ok-period.period) (followed-by (Some c.in-ok-jitter.jitter) o))) c.in-ok-jitter.rest.now c.in-ok-blocking.rest.now c.in-ok-blocking.blocking c.in-ok-blocking.ensures.0 c.in-ok-blocking.ensures.1
-    ∙ number-missing (λ o. row (followed-by (Some c.in-ok-period.period) (followed-by (Some c.in-ok-jitter.jitter) (followed-by (Some c.in-ok-blocking.blocking) o)))) c.in-ok-blocking.rest.now None refl refl c.in-err-deadline.ensures)
+pub returns-in_err-deadline : goal.returns-in_err-deadline
+returns-in_err-deadline c =
+    c.from_residual-in_err-deadline.ensures
+    ∙ sym (number-on row c.args.rest.now c.in_ok-period.rest.now c.in_ok-period.period c.in_ok-period.ensures.0 c.in_ok-period.ensures.1
+    ∙ number-on (λ o. row (followed-by (Some c.in_ok-period.period) o)) c.in_ok-period.rest.now c.in_ok-jitter.rest.now c.in_ok-jitter.jitter c.in_ok-jitter.ensures.0 c.in_ok-jitter.ensures.1
+    ∙ number-on (λ o. row (followed-by (Some c.in_ok-period.period) (followed-by (Some c.in_ok-jitter.jitter) o))) c.in_ok-jitter.rest.now c.in_ok-blocking.rest.now c.in_ok-blocking.blocking c.in_ok-blocking.ensures.0 c.in_ok-blocking.ensures.1
+    ∙ number-missing (λ o. row (followed-by (Some c.in_ok-period.period) (followed-by (Some c.in_ok-jitter.jitter) (followed-by (Some c.in_ok-blocking.blocking) o)))) c.in_ok-blocking.rest.now None refl refl c.in_err-deadline.ensures)
 
-pub returns-in-err-hold : goal.returns-in-err-hold
-returns-in-err-hold c =
-    c.from-residual-in-err-hold.ensures
-    ∙ sym (number-on row c.args.rest.now c.in-ok-period.rest.now c.in-ok-period.period c.in-ok-period.ensures.0 c.in-ok-period.ensures.1
-    ∙ number-on (λ o. row (followed-by (Some c.in-ok-period.period) o)) c.in-ok-period.rest.now c.in-ok-jitter.rest.now c.in-ok-jitter.jitter c.in-ok-jitter.ensures.0 c.in-ok-jitter.ensures.1
-    ∙ number-on (λ o. row (followed-by (Some c.in-ok-period.period) (followed-by (Some c.in-ok-jitter.jitter) o))) c.in-ok-jitter.rest.now c.in-ok-blocking.rest.now c.in-ok-blocking.blocking c.in-ok-blocking.ensures.0 c.in-ok-blocking.ensures.1
-    ∙ number-on (λ o. row (followed-by (Some c.in-ok-period.period) (followed-by (Some c.in-ok-jitter.jitter) (followed-by (Some c.in-ok-blocking.blocking) o)))) c.in-ok-blocking.rest.now c.in-ok-deadline.rest.now c.in-ok-deadline.deadline c.in-ok-deadline.ensures.0 c.in-ok-deadline.ensures.1
-    ∙ number-missing (λ o. row (followed-by (Some c.in-ok-period.period) (followed-by (Some c.in-ok-jitter.jitter) (followed-by (Some c.in-ok-blocking.blocking) (followed-by (Some c.in-ok-deadline.deadline) o))))) c.in-ok-deadline.rest.now None refl refl c.in-err-hold.ensures)
+pub returns-in_err-hold : goal.returns-in_err-hold
+returns-in_err-hold c =
+    c.from_residual-in_err-hold.ensures
+    ∙ sym (number-on row c.args.rest.now c.in_ok-period.rest.now c.in_ok-period.period c.in_ok-period.ensures.0 c.in_ok-period.ensures.1
+    ∙ number-on (λ o. row (followed-by (Some c.in_ok-period.period) o)) c.in_ok-period.rest.now c.in_ok-jitter.rest.now c.in_ok-jitter.jitter c.in_ok-jitter.ensures.0 c.in_ok-jitter.ensures.1
+    ∙ number-on (λ o. row (followed-by (Some c.in_ok-period.period) (followed-by (Some c.in_ok-jitter.jitter) o))) c.in_ok-jitter.rest.now c.in_ok-blocking.rest.now c.in_ok-blocking.blocking c.in_ok-blocking.ensures.0 c.in_ok-blocking.ensures.1
+    ∙ number-on (λ o. row (followed-by (Some c.in_ok-period.period) (followed-by (Some c.in_ok-jitter.jitter) (followed-by (Some c.in_ok-blocking.blocking) o)))) c.in_ok-blocking.rest.now c.in_ok-deadline.rest.now c.in_ok-deadline.deadline c.in_ok-deadline.ensures.0 c.in_ok-deadline.ensures.1
+    ∙ number-missing (λ o. row (followed-by (Some c.in_ok-period.period) (followed-by (Some c.in_ok-jitter.jitter) (followed-by (Some c.in_ok-blocking.blocking) (followed-by (Some c.in_ok-deadline.deadline) o))))) c.in_ok-deadline.rest.now None refl refl c.in_err-hold.ensures)
 
-pub returns-in-err-costs : goal.returns-in-err-costs
-returns-in-err-costs c =
-    c.from-residual-in-err-costs.ensures
-    ∙ sym (number-on row c.args.rest.now c.in-ok-period.rest.now c.in-ok-period.period c.in-ok-period.ensures.0 c.in-ok-period.ensures.1
-    ∙ number-on (λ o. row (followed-by (Some c.in-ok-period.period) o)) c.in-ok-period.rest.now c.in-ok-jitter.rest.now c.in-ok-jitter.jitter c.in-ok-jitter.ensures.0 c.in-ok-jitter.ensures.1
-    ∙ number-on (λ o. row (followed-by (Some c.in-ok-period.period) (followed-by (Some c.in-ok-jitter.jitter) o))) c.in-ok-jitter.rest.now c.in-ok-blocking.rest.now c.in-ok-blocking.blocking c.in-ok-blocking.ensures.0 c.in-ok-blocking.ensures.1
-    ∙ number-on (λ o. row (followed-by (Some c.in-ok-period.period) (followed-by (Some c.in-ok-jitter.jitter) (followed-by (Some c.in-ok-blocking.blocking) o)))) c.in-ok-blocking.rest.now c.in-ok-deadline.rest.now c.in-ok-deadline.deadline c.in-ok-deadline.ensures.0 c.in-ok-deadline.ensures.1
-    ∙ number-on (λ o. row (followed-by (Some c.in-ok-period.period) (followed-by (Some c.in-ok-jitter.jitter) (followed-by (Some c.in-ok-blocking.blocking) (followed-by (Some c.in-ok-deadline.deadline) o))))) c.in-ok-deadline.rest.now c.in-ok-hold.rest.now c.in-ok-hold.hold c.in-ok-hold.ensures.0 c.in-ok-hold.ensures.1
-    ∙ no-costs (λ o. row (followed-by (Some c.in-ok-period.period) (followed-by (Some c.in-ok-jitter.jitter) (followed-by (Some c.in-ok-blocking.blocking) (followed-by (Some c.in-ok-deadline.deadline) (followed-by (Some c.in-ok-hold.hold) o)))))) refl refl (numbers_after c.in-ok-hold.rest.now) c.in-err-costs.ensures)
+pub returns-in_err-costs : goal.returns-in_err-costs
+returns-in_err-costs c =
+    c.from_residual-in_err-costs.ensures
+    ∙ sym (number-on row c.args.rest.now c.in_ok-period.rest.now c.in_ok-period.period c.in_ok-period.ensures.0 c.in_ok-period.ensures.1
+    ∙ number-on (λ o. row (followed-by (Some c.in_ok-period.period) o)) c.in_ok-period.rest.now c.in_ok-jitter.rest.now c.in_ok-jitter.jitter c.in_ok-jitter.ensures.0 c.in_ok-jitter.ensures.1
+    ∙ number-on (λ o. row (followed-by (Some c.in_ok-period.period) (followed-by (Some c.in_ok-jitter.jitter) o))) c.in_ok-jitter.rest.now c.in_ok-blocking.rest.now c.in_ok-blocking.blocking c.in_ok-blocking.ensures.0 c.in_ok-blocking.ensures.1
+    ∙ number-on (λ o. row (followed-by (Some c.in_ok-period.period) (followed-by (Some c.in_ok-jitter.jitter) (followed-by (Some c.in_ok-blocking.blocking) o)))) c.in_ok-blocking.rest.now c.in_ok-deadline.rest.now c.in_ok-deadline.deadline c.in_ok-deadline.ensures.0 c.in_ok-deadline.ensures.1
+    ∙ number-on (λ o. row (followed-by (Some c.in_ok-period.period) (followed-by (Some c.in_ok-jitter.jitter) (followed-by (Some c.in_ok-blocking.blocking) (followed-by (Some c.in_ok-deadline.deadline) o))))) c.in_ok-deadline.rest.now c.in_ok-hold.rest.now c.in_ok-hold.hold c.in_ok-hold.ensures.0 c.in_ok-hold.ensures.1
+    ∙ no-costs (λ o. row (followed-by (Some c.in_ok-period.period) (followed-by (Some c.in_ok-jitter.jitter) (followed-by (Some c.in_ok-blocking.blocking) (followed-by (Some c.in_ok-deadline.deadline) (followed-by (Some c.in_ok-hold.hold) o)))))) refl refl (numbers_after c.in_ok-hold.rest.now) c.in_err-costs.ensures)
 
 pub returns : goal.returns
-returns c = sym (number-on row c.args.rest.now c.in-ok-period.rest.now c.in-ok-period.period c.in-ok-period.ensures.0 c.in-ok-period.ensures.1
-    ∙ number-on (λ o. row (followed-by (Some c.in-ok-period.period) o)) c.in-ok-period.rest.now c.in-ok-jitter.rest.now c.in-ok-jitter.jitter c.in-ok-jitter.ensures.0 c.in-ok-jitter.ensures.1
-    ∙ number-on (λ o. row (followed-by (Some c.in-ok-period.period) (followed-by (Some c.in-ok-jitter.jitter) o))) c.in-ok-jitter.rest.now c.in-ok-blocking.rest.now c.in-ok-blocking.blocking c.in-ok-blocking.ensures.0 c.in-ok-blocking.ensures.1
-    ∙ number-on (λ o. row (followed-by (Some c.in-ok-period.period) (followed-by (Some c.in-ok-jitter.jitter) (followed-by (Some c.in-ok-blocking.blocking) o)))) c.in-ok-blocking.rest.now c.in-ok-deadline.rest.now c.in-ok-deadline.deadline c.in-ok-deadline.ensures.0 c.in-ok-deadline.ensures.1
-    ∙ number-on (λ o. row (followed-by (Some c.in-ok-period.period) (followed-by (Some c.in-ok-jitter.jitter) (followed-by (Some c.in-ok-blocking.blocking) (followed-by (Some c.in-ok-deadline.deadline) o))))) c.in-ok-deadline.rest.now c.in-ok-hold.rest.now c.in-ok-hold.hold c.in-ok-hold.ensures.0 c.in-ok-hold.ensures.1
-    ∙ with-costs (λ o. row (followed-by (Some c.in-ok-period.period) (followed-by (Some c.in-ok-jitter.jitter) (followed-by (Some c.in-ok-blocking.blocking) (followed-by (Some c.in-ok-deadline.deadline) (followed-by (Some c.in-ok-hold.hold) o)))))) (rows.Task c.in-ok-period.period c.in-ok-jitter.jitter c.in-ok-blocking.blocking c.in-ok-deadline.deadline c.in-ok-hold.hold) (λ n ns. refl) (numbers_after c.in-ok-hold.rest.now) c.in-ok-costs.costs c.in-ok-costs.ensures)
+returns c = sym (number-on row c.args.rest.now c.in_ok-period.rest.now c.in_ok-period.period c.in_ok-period.ensures.0 c.in_ok-period.ensures.1
+    ∙ number-on (λ o. row (followed-by (Some c.in_ok-period.period) o)) c.in_ok-period.rest.now c.in_ok-jitter.rest.now c.in_ok-jitter.jitter c.in_ok-jitter.ensures.0 c.in_ok-jitter.ensures.1
+    ∙ number-on (λ o. row (followed-by (Some c.in_ok-period.period) (followed-by (Some c.in_ok-jitter.jitter) o))) c.in_ok-jitter.rest.now c.in_ok-blocking.rest.now c.in_ok-blocking.blocking c.in_ok-blocking.ensures.0 c.in_ok-blocking.ensures.1
+    ∙ number-on (λ o. row (followed-by (Some c.in_ok-period.period) (followed-by (Some c.in_ok-jitter.jitter) (followed-by (Some c.in_ok-blocking.blocking) o)))) c.in_ok-blocking.rest.now c.in_ok-deadline.rest.now c.in_ok-deadline.deadline c.in_ok-deadline.ensures.0 c.in_ok-deadline.ensures.1
+    ∙ number-on (λ o. row (followed-by (Some c.in_ok-period.period) (followed-by (Some c.in_ok-jitter.jitter) (followed-by (Some c.in_ok-blocking.blocking) (followed-by (Some c.in_ok-deadline.deadline) o))))) c.in_ok-deadline.rest.now c.in_ok-hold.rest.now c.in_ok-hold.hold c.in_ok-hold.ensures.0 c.in_ok-hold.ensures.1
+    ∙ with-costs (λ o. row (followed-by (Some c.in_ok-period.period) (followed-by (Some c.in_ok-jitter.jitter) (followed-by (Some c.in_ok-blocking.blocking) (followed-by (Some c.in_ok-deadline.deadline) (followed-by (Some c.in_ok-hold.hold) o)))))) (rows.Task c.in_ok-period.period c.in_ok-jitter.jitter c.in_ok-blocking.blocking c.in_ok-deadline.deadline c.in_ok-hold.hold) (λ n ns. refl) (numbers_after c.in_ok-hold.rest.now) c.in_ok-costs.costs c.in_ok-costs.ensures)

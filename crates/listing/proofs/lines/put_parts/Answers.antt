@@ -7,8 +7,8 @@ use Rattle.listing.proofs.lines.put_parts.Goals as goal
 pub loop-place-init : goal.loop-place-init
 loop-place-init c = (sym (put-none c.args.buffer.now c.args.at), omega arith, omega arith)
 
-pub put-part-end-requires : goal.put-part-end-requires
-put-part-end-requires c =
+pub put_part-end-requires : goal.put_part-end-requires
+put_part-end-requires c =
     let xs = c.args.marks.now.parts in
     let l = c.loop-place in
     let n = l.place in
@@ -20,7 +20,7 @@ loop-place-preserved c =
     let at = c.args.at in
     let xs = c.args.marks.now.parts in
     let l = c.loop-place in
-    let p = c.put-part-end in
+    let p = c.put_part-end in
     let n = l.place in
     let line = part-line (n + 1) (get_or xs n 0) in (
       put_next b l.buffer p.new.buffer (part-lines n xs) line (part-lines (n + 1) xs) at l.end (omega arith) l.invariant.0 l.invariant.1 p.ensures.text (part-lines-more n xs),

@@ -7,8 +7,8 @@ use Rattle.listing.proofs.lines.put_tasks.Goals as goal
 pub loop-place-init : goal.loop-place-init
 loop-place-init c = (sym (put-none c.args.buffer.now c.args.at), omega arith, omega arith)
 
-pub put-task-end-requires : goal.put-task-end-requires
-put-task-end-requires c =
+pub put_task-end-requires : goal.put_task-end-requires
+put_task-end-requires c =
     let l = c.loop-place in
     let mark = c.task.result in
     room_for l.end (length (task-line (l.place + 1) mark)) 79 (length l.buffer) (omega arith) (task-short (l.place + 1) mark (omega arith) (omega arith) (omega arith) (omega arith))
@@ -19,7 +19,7 @@ loop-place-preserved c =
     let at = c.args.at in
     let xs = c.args.marks.now.tasks in
     let l = c.loop-place in
-    let p = c.put-task-end in
+    let p = c.put_task-end in
     let n = l.place in
     let mark = c.task.result in
     let line = task-line (n + 1) mark in

@@ -7,15 +7,15 @@ use Rattle.listing.proofs.pieces.put_all.Goals as goal
 pub loop-piece-init : goal.loop-piece-init
 loop-piece-init c = (sym (put-none c.args.buffer.now c.args.at), omega arith)
 
-pub put-piece-end-requires : goal.put-piece-end-requires
-put-piece-end-requires c =
+pub put_piece-end-requires : goal.put_piece-end-requires
+put_piece-end-requires c =
     let l = c.loop-piece in
     next-room piece-text c.args.pieces.now l.piece-index _ c.args.at l.end (length l.buffer) (omega arith) (omega arith) l.invariant.1
 
 pub loop-piece-preserved : goal.loop-piece-preserved
 loop-piece-preserved c =
     let l = c.loop-piece in
-    let p = c.put-piece-end in (
+    let p = c.put_piece-end in (
       put_next c.args.buffer.now l.buffer p.new.buffer (pieces-text (take l.piece-index c.args.pieces.now)) _ (pieces-text (take (l.piece-index + 1) c.args.pieces.now)) c.args.at l.end (omega (arith, joined-front piece-text c.args.pieces.now l.piece-index)) l.invariant.0 l.invariant.1 p.ensures.text (joined-push piece-text c.args.pieces.now l.piece-index _ (omega arith)),
       end-next (pieces-text (take l.piece-index c.args.pieces.now)) _ (pieces-text (take (l.piece-index + 1) c.args.pieces.now)) c.args.at l.end p.result l.invariant.1 p.ensures.end (joined-push piece-text c.args.pieces.now l.piece-index _ (omega arith)),
     )

@@ -3,4 +3,4 @@ use Rattle.listing.proofs.Placing.{put-part}
 use Rattle.listing.proofs.pieces.put_bytes.Goals as goal
 
 pub returns : goal.returns
-returns c = record { text = put-part c.args.buffer.now c.copy-from-slice.new.self c.args.bytes.now c.args.at _ c.copy-from-slice.ensures.after (omega arith); end = refl }
+returns c = record { text = put-part c.args.buffer.now c.copy_from_slice.new.self c.args.bytes.now c.args.at _ c.copy_from_slice.ensures.after (omega arith); end = refl }

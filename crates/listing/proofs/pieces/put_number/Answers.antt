@@ -3,8 +3,8 @@ use Rattle.listing.specs.Put.{put}
 use Rattle.listing.proofs.Spelling.{digits-part}
 use Rattle.listing.proofs.pieces.put_number.Goals as goal
 
-pub put-bytes-requires : goal.put-bytes-requires
-put-bytes-requires c =
+pub put_bytes-requires : goal.put_bytes-requires
+put_bytes-requires c =
     let s = c.spelled-start in
     omega (arith, ap length (digits-part c.args.n s.result.1 s.result.0 s.ensures.room s.ensures.digits))
 
@@ -13,6 +13,6 @@ returns c =
     let s = c.spelled-start in
     let e : take (20 - s.result.1) (drop s.result.1 s.result.0) ≡ decimal c.args.n = digits-part c.args.n s.result.1 s.result.0 s.ensures.room s.ensures.digits in
     record {
-      text = c.put-bytes.ensures.text ∙ ap (put c.args.buffer.now c.args.at) e;
-      end = c.put-bytes.ensures.end ∙ ap (λ t. c.args.at + length t) e;
+      text = c.put_bytes.ensures.text ∙ ap (put c.args.buffer.now c.args.at) e;
+      end = c.put_bytes.ensures.end ∙ ap (λ t. c.args.at + length t) e;
     }

@@ -2,13 +2,13 @@ use Rattle.std.proofs.Common.{◌+◌, ◌-◌, ◌%◌, ◌≤◌, ◌∙◌, a
 use Rattle.listing.proofs.Spelling.{room-left, digits_more, digits-all}
 use Rattle.listing.proofs.pieces.spelled.Goals as goal
 
-pub overflow-sub-start : goal.overflow-sub-start
-overflow-sub-start c =
+pub overflow_sub-start : goal.overflow_sub-start
+overflow_sub-start c =
     let l = c.loop-rest in
     room-left c.args.n l.rest l.start l.digits (omega arith) (omega arith) l.invariant.1 l.invariant.2 l.invariant.0
 
-pub overflow-sub-start-2 : goal.overflow-sub-start-2
-overflow-sub-start-2 c =
+pub overflow_sub-start-2 : goal.overflow_sub-start-2
+overflow_sub-start-2 c =
     let l = c.loop-rest in
     room-left c.args.n l.rest l.start l.digits (omega arith) (omega arith) l.invariant.1 l.invariant.2 l.invariant.0
 

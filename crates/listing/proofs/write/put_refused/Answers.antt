@@ -4,12 +4,12 @@ use Rattle.listing.proofs.Placing.{room_for, ends-within}
 use Rattle.listing.proofs.Sizes.{refusal-short}
 use Rattle.listing.proofs.write.put_refused.Goals as goal
 
-pub put-refusal-requires : goal.put-refusal-requires
-put-refusal-requires c = room_for 0 (length (refusal-text c.args.refusal)) 36 (length c.args.buffer.now) (omega arith) (refusal-short c.args.refusal (omega arith))
+pub put_refusal-requires : goal.put_refusal-requires
+put_refusal-requires c = room_for 0 (length (refusal-text c.args.refusal)) 36 (length c.args.buffer.now) (omega arith) (refusal-short c.args.refusal (omega arith))
 
 pub returns : goal.returns
 returns c =
     let size = length (refusal-text c.args.refusal) in
-    let p = c.put-refusal in
+    let p = c.put_refusal in
     let small : p.result ≤ 0 + 36 = ends-within 0 size 36 p.result p.ensures.end (refusal-short c.args.refusal (omega arith)) in
     record { text = p.ensures.text; end = p.ensures.end ∙ zero-add size; short = omega arith }

@@ -25,11 +25,11 @@ loop-place-init c =
 pub bounds-costs-end : goal.bounds-costs-end
 bounds-costs-end c = end-within c.args.costs.now c.args.m c.loop-place.place c.loop-place.window c.loop-place.best c.loop-place-test.true c.requires.short c.loop-place.invariant.0 c.wrapped-end.result c.wrapped-end.ensures
 
-pub overflow-add-window : goal.overflow-add-window
-overflow-add-window c = omega (arith, window-small c.args.costs.now c.args.m c.loop-place.place c.loop-place.window c.loop-place.best c.loop-place-test.true c.requires.short c.loop-place.invariant.0 c.requires.small, c.requires.small c.wrapped-end.result)
+pub overflow_add-window : goal.overflow_add-window
+overflow_add-window c = omega (arith, window-small c.args.costs.now c.args.m c.loop-place.place c.loop-place.window c.loop-place.best c.loop-place-test.true c.requires.short c.loop-place.invariant.0 c.requires.small, c.requires.small c.wrapped-end.result)
 
-pub overflow-sub-window : goal.overflow-sub-window
-overflow-sub-window c = omega (arith, window-slides c.args.costs.now c.args.m c.loop-place.place c.loop-place.window c.loop-place.best c.loop-place-test.true c.requires.short c.loop-place.invariant.0 c.wrapped-end.result c.wrapped-end.ensures)
+pub overflow_sub-window : goal.overflow_sub-window
+overflow_sub-window c = omega (arith, window-slides c.args.costs.now c.args.m c.loop-place.place c.loop-place.window c.loop-place.best c.loop-place-test.true c.requires.short c.loop-place.invariant.0 c.wrapped-end.result c.wrapped-end.ensures)
 
 pub loop-place-preserved : goal.loop-place-preserved
 loop-place-preserved c =

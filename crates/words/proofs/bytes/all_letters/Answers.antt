@@ -8,13 +8,13 @@ use Rattle.words.proofs.bytes.all_letters.Goals as goal
 
 pub returns-then-ne : goal.returns-then-ne
 returns-then-ne c =
-    let ne : c.class-of.result ≡ Letter → ⊥ = search rules in
-    sym (all-stop is-letter all-letters (λ _ _. refl) c.args.bytes.now c.loop-byte.byte-index c.loop-byte-test.true c.loop-byte.invariant (no-letter-if (get_or c.args.bytes.now c.loop-byte.byte-index 0) (λ e. ne (c.class-of.ensures ∙ e))))
+    let ne : c.class_of.result ≡ Letter → ⊥ = search rules in
+    sym (all-stop is-letter all-letters (λ _ _. refl) c.args.bytes.now c.loop-byte.byte-index c.loop-byte-test.true c.loop-byte.invariant (no-letter-if (get_or c.args.bytes.now c.loop-byte.byte-index 0) (λ e. ne (c.class_of.ensures ∙ e))))
 
 pub loop-byte-preserved : goal.loop-byte-preserved
 loop-byte-preserved c =
-    let same : c.class-of.result ≡ Letter = search rules in
-    all-on is-letter all-letters (λ _ _. refl) c.args.bytes.now c.loop-byte.byte-index c.loop-byte-test.true c.loop-byte.invariant (letter-if (get_or c.args.bytes.now c.loop-byte.byte-index 0) (sym c.class-of.ensures ∙ same))
+    let same : c.class_of.result ≡ Letter = search rules in
+    all-on is-letter all-letters (λ _ _. refl) c.args.bytes.now c.loop-byte.byte-index c.loop-byte-test.true c.loop-byte.invariant (letter-if (get_or c.args.bytes.now c.loop-byte.byte-index 0) (sym c.class_of.ensures ∙ same))
 
 pub returns : goal.returns
 returns c = sym (c.loop-byte.invariant ∙ at_drop_all all-letters c.args.bytes.now c.loop-byte.byte-index c.loop-byte-test.false)

@@ -12,17 +12,17 @@ pub returns-then-ne : goal.returns-then-ne
 returns-then-ne c =
     let w = c.args.digits.now in
     let i = c.loop-digit.digit-index in
-    let ne : c.class-of.result ≡ Digit → ⊥ = search rules in
-    sym (cond-false (all_digits w) (Some (min (read-on 0 w) 1000001)) None (all-stop is_digit all_digits (λ _ _. refl) w i c.loop-digit-test.true c.loop-digit.invariant.1 (no-digit-if (get_or w i 0) (λ e. ne (c.class-of.ensures ∙ e)))))
+    let ne : c.class_of.result ≡ Digit → ⊥ = search rules in
+    sym (cond-false (all_digits w) (Some (min (read-on 0 w) 1000001)) None (all-stop is_digit all_digits (λ _ _. refl) w i c.loop-digit-test.true c.loop-digit.invariant.1 (no-digit-if (get_or w i 0) (λ e. ne (c.class_of.ensures ∙ e)))))
 
 pub loop-digit-preserved : goal.loop-digit-preserved
 loop-digit-preserved c =
     let w = c.args.digits.now in
     let i = c.loop-digit.digit-index in
-    let same : c.class-of.result ≡ Digit = search rules in
+    let same : c.class_of.result ≡ Digit = search rules in
     let next : c.min-value.result ≡ min (10 * c.loop-digit.value + (get_or w i 0 - 48)) 1000001 = omega arith in (
       omega arith,
-      all-on is_digit all_digits (λ _ _. refl) w i c.loop-digit-test.true c.loop-digit.invariant.1 (digit-if (get_or w i 0) (sym c.class-of.ensures ∙ same)),
+      all-on is_digit all_digits (λ _ _. refl) w i c.loop-digit-test.true c.loop-digit.invariant.1 (digit-if (get_or w i 0) (sym c.class_of.ensures ∙ same)),
       value_on w i c.loop-digit.value c.min-value.result c.loop-digit-test.true c.loop-digit.invariant.2 next,
     )
 

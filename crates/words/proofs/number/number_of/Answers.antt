@@ -3,24 +3,24 @@ use Rattle.words.specs.Numbers.{plain-front}
 use Rattle.words.proofs.Numbering.{number-rule, no_front, no-digits, above-limit, within-limit}
 use Rattle.words.proofs.number.number_of.Goals as goal
 
-pub returns-then-not-has-plain-front : goal.returns-then-not-has-plain-front
-returns-then-not-has-plain-front c =
+pub returns-then-not-has_plain_front : goal.returns-then-not-has_plain_front
+returns-then-not-has_plain_front c =
     let w = c.args.word.now in
     let bad : plain-front w ≡ false = search rules in
     record { value = no_front w bad; rule = number-rule w }
 
-pub returns-in-err-value : goal.returns-in-err-value
-returns-in-err-value c =
+pub returns-in_err-value : goal.returns-in_err-value
+returns-in_err-value c =
     let w = c.args.word.now in
-    record { value = c.from-residual.ensures ∙ no-digits w c.in-err-value.ensures; rule = number-rule w }
+    record { value = c.from_residual.ensures ∙ no-digits w c.in_err-value.ensures; rule = number-rule w }
 
 pub returns-then-value-gt-LIMIT : goal.returns-then-value-gt-LIMIT
 returns-then-value-gt-LIMIT c =
     let w = c.args.word.now in
-    record { value = above-limit w c.in-ok-value.value c.in-ok-value.ensures (omega arith); rule = number-rule w }
+    record { value = above-limit w c.in_ok-value.value c.in_ok-value.ensures (omega arith); rule = number-rule w }
 
 pub returns : goal.returns
 returns c =
     let w = c.args.word.now in
     let good : plain-front w ≡ true = search rules in
-    record { value = within-limit w c.in-ok-value.value good c.in-ok-value.ensures (omega arith); rule = number-rule w }
+    record { value = within-limit w c.in_ok-value.value good c.in_ok-value.ensures (omega arith); rule = number-rule w }

@@ -5,10 +5,10 @@ use Rattle.words.proofs.split.first_line.Goals as goal
 pub returns : goal.returns
 returns c =
     let sheet = c.args.sheet.now in
-    let end = c.place-of-end.result in
+    let end = c.place_of-end.result in
     let less : end < length sheet = omega arith in
     let rest = take_rest sheet (end + 1) in (
-      c.place-of-end.ensures.front,
-      ap (λ ys. 10 ∷ ys) rest ∙ c.place-of-end.ensures.found less,
+      c.place_of-end.ensures.front,
+      ap (λ ys. 10 ∷ ys) rest ∙ c.place_of-end.ensures.found less,
       omega (arith, ap length rest, length-drop (end + 1) sheet),
     )

@@ -3,5 +3,5 @@ use Rattle.std.proofs.lemmas.Bool.{cond-true}
 use Rattle.paced.specs.Rows.{allowance-one}
 use Rattle.paced.proofs.row.Row.allowance.Goals as goal
 
-pub returns-then-is-open : goal.returns-then-is-open
-returns-then-is-open c = sym (allowance-one c.args.self.now c.requires ∙ cond-true _ _ _ (sym c.is-open.ensures ∙ c.if-is-open.true))
+pub returns-then-is_open : goal.returns-then-is_open
+returns-then-is_open c = sym (allowance-one c.args.self.now c.requires ∙ cond-true _ _ _ (sym c.is_open.ensures ∙ c.if-is_open.true))

@@ -18,8 +18,8 @@ whole-requires c =
       small = front-small r.costs r.count short c.requires.fit.costs;
     }
 
-pub largest-part-requires : goal.largest-part-requires
-largest-part-requires c =
+pub largest_part-requires : goal.largest_part-requires
+largest_part-requires c =
     let r = c.args.self.now in
     let short : r.count ≤ length r.costs = omega arith in
     record {
@@ -37,5 +37,5 @@ returns c =
     let counted : c.arrivals-come.result ≡ n = c.arrivals-come.ensures in
     let rounds : c.from.result ≡ n / r.count = c.from.ensures ∙ ap (λ m. m / r.count) counted in
     let round : c.from-2.result ≡ sum (at r.costs) r.count = c.from-2.ensures ∙ c.whole.ensures ∙ front-sum r.costs r.count short in
-    let rest : c.from-3.result ≡ largest r.count r.costs (n % r.count) = c.from-3.ensures ∙ c.largest-part.ensures ∙ front-largest r.costs r.count short (c.arrivals-come.result % r.count) ∙ ap (λ m. largest r.count r.costs (m % r.count)) counted in
+    let rest : c.from-3.result ≡ largest r.count r.costs (n % r.count) = c.from-3.ensures ∙ c.largest_part.ensures ∙ front-largest r.costs r.count short (c.arrivals-come.result % r.count) ∙ ap (λ m. largest r.count r.costs (m % r.count)) counted in
     (λ i. rounds i * round i + rest i) ∙ ap (λ k. k / r.count * sum (at r.costs) r.count + largest r.count r.costs (k % r.count)) (sym come) ∙ sym (demand-split r c.args.ticks c.requires.fit)

@@ -18,7 +18,7 @@ returns c =
     let short : r.count ≤ length r.costs = omega arith in
     c.load.ensures.value ∙ ap (λ units. load_of units (r.period * r.count)) (c.whole.ensures ∙ front-sum r.costs r.count short)
 
-pub overflow-mul-self : goal.overflow-mul-self
-overflow-mul-self c =
+pub overflow_mul-self : goal.overflow_mul-self
+overflow_mul-self c =
     let r = c.args.self.now in
     omega (arith, mul-le-mul {n₁ = r.period} {m₁ = r.count} {n₂ = 1000000} {m₂ = 8} (omega arith) (omega arith))

@@ -6,8 +6,8 @@ use Rattle.paced.proofs.row.Row.new.Goals as goal
 
 pub returns : goal.returns
 returns c =
-    let right : fault-of c.args.period c.args.jitter c.args.costs.now ≡ None = sym c.pace-fault.ensures ∙ c.in-default.is in
+    let right : fault-of c.args.period c.args.jitter c.args.costs.now ≡ None = sym c.pace_fault.ensures ∙ c.in_default.is in
     record {
-      fit = subst Fit (sym c.fresh-row.ensures) (fresh-fit c.args.period c.args.jitter c.args.costs.now right);
-      made = (right, c.fresh-row.ensures);
+      fit = subst Fit (sym c.fresh_row.ensures) (fresh-fit c.args.period c.args.jitter c.args.costs.now right);
+      made = (right, c.fresh_row.ensures);
     }

@@ -1,4 +1,4 @@
 use Rattle.paced.proofs.single.Paced.new.Goals as goal
 
-pub invariant-of-result : goal.invariant-of-result
-invariant-of-result c = let fit = c.in-Ok.ensures.fit in (fit.paces, (fit.places, (fit.costs, tt)))
+pub invariant_of-result : goal.invariant_of-result
+invariant_of-result c = let fit = c.in-Ok.ensures.fit in record { paces = fit.paces; places = fit.places; costs = fit.costs }

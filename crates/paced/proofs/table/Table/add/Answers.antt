@@ -5,22 +5,20 @@ use Rattle.paced.specs.Pace.{Paces, Places, Costs, Fit}
 use Rattle.paced.specs.Together.{set-every}
 use Rattle.paced.proofs.table.Table.add.Goals as goal
 
-pub returns-in-err-row : goal.returns-in-err-row
-returns-in-err-row c = let p = err_from_is_err_and c.from-residual.result c.from-residual.ensures.1 in rw (p.1, p.2) (cond-true _ _ _ (lt-ltb _ _ c.if-self-ge-ROOM.false) ∙ c.in-err-row.ensures.made, refl)
+pub returns-in_err-row : goal.returns-in_err-row
+returns-in_err-row c = let p = err_from_is_err_and c.from_residual.result c.from_residual.ensures.1 in rw (p.1, p.2) (cond-true _ _ _ (lt-ltb _ _ c.if-self-ge-ROOM.false) ∙ c.in_err-row.ensures.made, refl)
 
-pub invariant-of-self : goal.invariant-of-self
-invariant-of-self c =
+pub invariant_of-self : goal.invariant_of-self
+invariant_of-self c =
     let s = c.args.self.now in
     let n = s.count in
-    let row = c.in-ok-row.row in
-    let fit : Fit row = c.in-ok-row.ensures.fit in
-    let room : n < length s.rows = omega arith in (
-      length-set s.rows n row ∙ s.held,
-      (
-        omega arith,
-        (
-          set-every Paces s.rows n row (n + 1) room (λ i l ne. s.paces i (omega arith)) fit.paces,
-          (set-every Places s.rows n row (n + 1) room (λ i l ne. s.places i (omega arith)) fit.places, (set-every Costs s.rows n row (n + 1) room (λ i l ne. s.costs i (omega arith)) fit.costs, tt)),
-        ),
-      ),
-    )
+    let row = c.in_ok-row.row in
+    let fit : Fit row = c.in_ok-row.ensures.fit in
+    let room : n < length s.rows = omega arith in
+    record {
+      held = length-set s.rows n row ∙ s.held;
+      few = omega arith;
+      paces = set-every Paces s.rows n row (n + 1) room (λ i l ne. s.paces i (omega arith)) fit.paces;
+      places = set-every Places s.rows n row (n + 1) room (λ i l ne. s.places i (omega arith)) fit.places;
+      costs = set-every Costs s.rows n row (n + 1) room (λ i l ne. s.costs i (omega arith)) fit.costs;
+    }

@@ -13,21 +13,19 @@ loop-row-preserved c =
     let i = c.loop-row.row-index in
     ap (set ys i) c.lower.ensures ∙ ticks-on s.rows ys i (omega arith) c.loop-row.invariant
 
-pub invariant-of-self : goal.invariant-of-self
-invariant-of-self c =
+pub invariant_of-self : goal.invariant_of-self
+invariant_of-self c =
     let s = c.args.self.now in
     let all : c.loop-row.row-items ≡ map later s.rows = ticks-all s.rows c.loop-row.row-items c.loop-row.row-index (omega arith) c.loop-row.invariant in
     let fit : (i : ℕ) → i < s.count → Fit (later (row_at s.rows i)) = λ i h. later-fit (row_at s.rows i) (record { paces = s.paces i h; places = s.places i h; costs = s.costs i h }) in
-    subst (λ rows. (length rows ≡ 16) × ((s.count ≤ 16) × (((i : ℕ) → i < s.count → Paces (row_at rows i)) × (((i : ℕ) → i < s.count → Places (row_at rows i)) × (((i : ℕ) → i < s.count → Costs (row_at rows i)) × Unit {0}))))) (sym all) (
-      length-map s.rows later ∙ s.held,
-      (
-        s.few,
-        (
-          later-every Paces s.rows s.count (omega arith) (λ i h. (fit i h).paces),
-          (later-every Places s.rows s.count (omega arith) (λ i h. (fit i h).places), (later-every Costs s.rows s.count (omega arith) (λ i h. (fit i h).costs), tt)),
-        ),
-      ),
-    )
+    let held : length (map later s.rows) ≡ 16 = length-map s.rows later ∙ s.held in
+    record {
+      held = subst (λ rows. length rows ≡ 16) (sym all) held;
+      few = s.few;
+      paces = subst (λ rows. (i : ℕ) → i < s.count → Paces (row_at rows i)) (sym all) (later-every Paces s.rows s.count (omega arith) (λ i h. (fit i h).paces));
+      places = subst (λ rows. (i : ℕ) → i < s.count → Places (row_at rows i)) (sym all) (later-every Places s.rows s.count (omega arith) (λ i h. (fit i h).places));
+      costs = subst (λ rows. (i : ℕ) → i < s.count → Costs (row_at rows i)) (sym all) (later-every Costs s.rows s.count (omega arith) (λ i h. (fit i h).costs));
+    }
 
 pub returns : goal.returns
 returns c =
