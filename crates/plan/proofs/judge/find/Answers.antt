@@ -8,7 +8,7 @@ returns-in-None g c =
     let b = c.args.bank.now in
     let t = c.args.tasks.now in
     let late : Unbounded (g.S.Source.demanded b) (g.S.Source.parts b) t.limits t.parts.count t.parts.rows c.loop-place.place = c.in-None.ensures in (
-      omega (arith, c.count.ensures, c.if-count-gt-BANK-PARTS.false),
+      omega (arith, c.count.ensures, c.if-count-gt-BANK_PARTS.false),
       omega arith,
       omega (arith, c.count-count.ensures),
       (λ i h. (get_or c.loop-place.bounds i 0, c.loop-place.invariant.1 i (omega arith))),

@@ -3,15 +3,15 @@ use Rattle.plan.specs.Needs.{total}
 use Rattle.plan.proofs.Totals.{asked, total-on, total-small}
 use Rattle.plan.proofs.search.total_of.Goals as goal
 
-pub overflow-add-all : goal.overflow-add-all
-overflow-add-all g c =
+pub overflow_add-all : goal.overflow_add-all
+overflow_add-all g c =
     let s = c.args.source.now in
     let d = g.S.Source.demanded s in
     let sound = g.met.S.Source.sound s in
     let k = c.loop-place.place in
     let l = c.args.ticks in
     let here = asked (g.S.Source.parts s) k l (d (k + 1) l) c.demand.result (omega arith) c.requires.window c.demand.ensures in
-    omega (arith, here, c.unwrap-or-all.ensures, c.loop-place.invariant, sound.small (k + 1) l c.requires.window, total-small (g.S.Source.parts s) d (g.S.Source.allowed s) sound k l c.requires.window)
+    omega (arith, here, c.unwrap_or-all.ensures, c.loop-place.invariant, sound.small (k + 1) l c.requires.window, total-small (g.S.Source.parts s) d (g.S.Source.allowed s) sound k l c.requires.window)
 
 pub loop-place-preserved : goal.loop-place-preserved
 loop-place-preserved g c =
@@ -20,7 +20,7 @@ loop-place-preserved g c =
     let k = c.loop-place.place in
     let l = c.args.ticks in
     let here = asked (g.S.Source.parts s) k l (d (k + 1) l) c.demand.result (omega arith) c.requires.window c.demand.ensures in
-    omega (arith, here, c.unwrap-or-all.ensures, c.loop-place.invariant, total-on d k l)
+    omega (arith, here, c.unwrap_or-all.ensures, c.loop-place.invariant, total-on d k l)
 
 pub returns : goal.returns
 returns g c =

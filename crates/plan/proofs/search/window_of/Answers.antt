@@ -13,7 +13,7 @@ returns-then-need-from-2 g c =
     let f : ℕ → ℕ = needed (g.S.Source.demanded b) (g.S.Source.parts b) t.limits p.count p.rows c.args.place in
     let tasks = table-sound p.count (row_at p.rows) (omega (arith, p.few)) (λ i h. record { paces = p.paces i h; places = p.places i h; costs = p.costs i h }) in
     let rises : (l m : ℕ) → l ≤ m → f l ≤ f m = needed-rises (g.S.Source.parts b) (g.S.Source.demanded b) (g.S.Source.allowed b) (g.met.S.Source.sound b) t.limits p.count p.rows tasks c.args.place in
-    let late : c.deadline-deadline.result < f c.loop-ticks.ticks = omega (arith, c.need-of-need.ensures, c.from-in-loop-ticks.ensures) in
+    let late : c.deadline-deadline.result < f c.loop-ticks.ticks = omega (arith, c.need_of-need.ensures, c.from-in-loop-ticks.ensures) in
     λ l h k. none_within f rises c.loop-ticks.ticks c.loop-ticks.invariant.1 c.deadline-deadline.result late l h (omega (arith, c.deadline-deadline.ensures.value))
 
 pub loop-ticks-preserved : goal.loop-ticks-preserved
@@ -24,4 +24,4 @@ loop-ticks-preserved g c =
     let f : ℕ → ℕ = needed (g.S.Source.demanded b) (g.S.Source.parts b) t.limits p.count p.rows c.args.place in
     let tasks = table-sound p.count (row_at p.rows) (omega (arith, p.few)) (λ i h. record { paces = p.paces i h; places = p.places i h; costs = p.costs i h }) in
     let rises : (l m : ℕ) → l ≤ m → f l ≤ f m = needed-rises (g.S.Source.parts b) (g.S.Source.demanded b) (g.S.Source.allowed b) (g.met.S.Source.sound b) t.limits p.count p.rows tasks c.args.place in
-    (omega arith, λ m h l. climbs f rises c.loop-ticks.ticks c.loop-ticks.invariant.1 m h (omega (arith, c.need-of-need.ensures)))
+    (omega arith, λ m h l. climbs f rises c.loop-ticks.ticks c.loop-ticks.invariant.1 m h (omega (arith, c.need_of-need.ensures)))

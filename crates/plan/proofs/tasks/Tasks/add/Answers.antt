@@ -10,40 +10,35 @@ use Rattle.plan.proofs.tasks.Tasks.add.Goals as goal
 pub returns-in-Err : goal.returns-in-Err
 returns-in-Err c =
     let a = c.fault.result in
-    let b = c.limit-fault.result in
-    let none : first_of a b ≡ None = sym c.first-fault-found.ensures ∙ c.in-default.is in
+    let b = c.limit_fault.result in
+    let none : first_of a b ≡ None = sym c.first_fault-found.ensures ∙ c.in_default.is in
     let clean : a ≡ None = (first-none a b none).0 in
     let found = c.in-Err.ensures.0 in
     let z : ◌≡◌ {A = ℕ} 0 1 = cc (c.fault.ensures, clean, found) in
     absurd (omega arith)
 
-pub invariant-of-self : goal.invariant-of-self
-invariant-of-self c =
+pub invariant_of-self : goal.invariant_of-self
+invariant_of-self c =
     let s = c.args.self.now in
     let n = s.parts.count in
     let l = c.args.limit in
     let t = c.args.period in
     let j = c.args.jitter in
     let a = c.fault.result in
-    let b = c.limit-fault.result in
-    let none : first_of a b ≡ None = sym c.first-fault-found.ensures ∙ c.in-default.is in
-    let right : Right s.limits n t j l = right-limits s.limits n t j l (sym c.limit-fault.ensures ∙ (first-none a b none).1) in
+    let b = c.limit_fault.result in
+    let none : first_of a b ≡ None = sym c.first_fault-found.ensures ∙ c.in_default.is in
+    let right : Right s.limits n t j l = right-limits s.limits n t j l (sym c.limit_fault.ensures ∙ (first-none a b none).1) in
     let p = s.parts in
     let p' = c.add.new.self in
-    let grown = c.in-default-add.ensures in
+    let grown = c.in_default-add.ensures in
     let r = fresh t j c.args.costs.now in
     let room : n < 16 = had-room n t j c.args.costs.now grown.0 in
     let rows-room : n < length p.rows = omega (arith, p.held) in
     let limits-room : n < length s.limits = omega (arith, s.held) in
-    subst
-    (λ k. (length (set s.limits k l) ≡ 16) × (((i : ℕ) → i < p'.count → (limitAt (set s.limits k l) i).deadline + (row_at p'.rows i).jitter ≤ (row_at p'.rows i).period) × (((i : ℕ) → i < p'.count → (limitAt (set s.limits k l) i).blocking ≤ 1000000) × (((i m : ℕ) → i < m → m < p'.count → (limitAt (set s.limits k l) m).hold ≤ (limitAt (set s.limits k l) i).blocking) × Unit {0}))))
-    (sym c.count-place.ensures) (
-      length-set s.limits n l ∙ s.held,
-      (
-        add-deadlines p.rows p'.rows s.limits n p'.count r l grown.1 grown.2 rows-room limits-room s.deadlines right.deadline,
-        (
-          add-blockings p.rows p'.rows s.limits n p'.count r l grown.1 grown.2 rows-room limits-room s.blockings right.blocking,
-          (add_holds p.rows p'.rows s.limits n p'.count r l grown.1 grown.2 rows-room limits-room s.holds right.hold, tt),
-        ),
-      ),
-    )
+    let at : c.count-place.result ≡ n = c.count-place.ensures in
+    record {
+      held = subst (λ k. length (set s.limits k l) ≡ 16) (sym at) (length-set s.limits n l ∙ s.held);
+      deadlines = subst (λ k. (i : ℕ) → i < p'.count → (limitAt (set s.limits k l) i).deadline + (row_at p'.rows i).jitter ≤ (row_at p'.rows i).period) (sym at) (add-deadlines p.rows p'.rows s.limits n p'.count r l grown.1 grown.2 rows-room limits-room s.deadlines right.deadline);
+      blockings = subst (λ k. (i : ℕ) → i < p'.count → (limitAt (set s.limits k l) i).blocking ≤ 1000000) (sym at) (add-blockings p.rows p'.rows s.limits n p'.count r l grown.1 grown.2 rows-room limits-room s.blockings right.blocking);
+      holds = subst (λ k. (i m : ℕ) → i < m → m < p'.count → (limitAt (set s.limits k l) m).hold ≤ (limitAt (set s.limits k l) i).blocking) (sym at) (add_holds p.rows p'.rows s.limits n p'.count r l grown.1 grown.2 rows-room limits-room s.holds right.hold);
+    }

@@ -7,4 +7,4 @@ pub returns : goal.returns
 returns c =
     let s = c.args.self.now in
     let short : c.count-count.result ≤ length s.limits = omega (arith, c.count-count.ensures, s.held, s.parts.few) in
-    c.bearable-by.ensures ∙ front-bears s.limits c.args.hold c.count-count.result short ∙ ap (bearable s.limits c.args.hold) c.count-count.ensures
+    c.bearable_by.ensures ∙ front-bears s.limits c.args.hold c.count-count.result short ∙ ap (bearable s.limits c.args.hold) c.count-count.ensures
