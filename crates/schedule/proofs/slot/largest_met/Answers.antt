@@ -6,27 +6,27 @@ use Rattle.schedule.specs.Twice.{offset-twice, units-twice, met-from}
 use Rattle.schedule.proofs.Slots.{sum-small, window-is, pairs-are-worst}
 use Rattle.schedule.proofs.slot.largest_met.Goals as goal
 
-pub overflow-sub-reach : goal.overflow-sub-reach
-overflow-sub-reach c =
-    let met = window-is c.args.cycle c.args.slots.now c.requires.rising c.requires.below c.args.ticks c.loop-start.start c.moved-on-reach.result.end c.loop-start-test.true c.requires.ticks c.moved-on-reach.ensures.end c.moved-on-reach.ensures.before c.moved-on-reach.ensures.after in
-    omega (arith, c.loop-start.invariant.0, c.moved-on-reach.ensures.sum)
+pub overflow_sub-reach : goal.overflow_sub-reach
+overflow_sub-reach c =
+    let met = window-is c.args.cycle c.args.slots.now c.requires.rising c.requires.below c.args.ticks c.loop-start.start c.moved_on-reach.result.end c.loop-start-test.true c.requires.ticks c.moved_on-reach.ensures.end c.moved_on-reach.ensures.before c.moved_on-reach.ensures.after in
+    omega (arith, c.loop-start.invariant.0, c.moved_on-reach.ensures.sum)
 
-pub overflow-add-passed : goal.overflow-add-passed
-overflow-add-passed c = omega (arith, c.loop-start.invariant.0, sum-small c.args.slots.now c.requires.lengths c.loop-start.start, c.requires.lengths c.loop-start.start)
+pub overflow_add-passed : goal.overflow_add-passed
+overflow_add-passed c = omega (arith, c.loop-start.invariant.0, sum-small c.args.slots.now c.requires.lengths c.loop-start.start, c.requires.lengths c.loop-start.start)
 
-largest-is : (c : goal.After-max-best) → c.max-best.result ≡ max c.loop-start.best (c.moved-on-reach.result.sum - c.loop-start.passed)
+largest-is : (c : goal.After-max-best) → c.max-best.result ≡ max c.loop-start.best (c.moved_on-reach.result.sum - c.loop-start.passed)
 largest-is c = grind arith
 
 pub loop-start-preserved : goal.loop-start-preserved
 loop-start-preserved c =
     let slots = c.args.slots.now in
     let i = c.loop-start.start in
-    let met = window-is c.args.cycle c.args.slots.now c.requires.rising c.requires.below c.args.ticks c.loop-start.start c.moved-on-reach.result.end c.loop-start-test.true c.requires.ticks c.moved-on-reach.ensures.end c.moved-on-reach.ensures.before c.moved-on-reach.ensures.after in (
+    let met = window-is c.args.cycle c.args.slots.now c.requires.rising c.requires.below c.args.ticks c.loop-start.start c.moved_on-reach.result.end c.loop-start-test.true c.requires.ticks c.moved_on-reach.ensures.end c.moved_on-reach.ensures.before c.moved_on-reach.ensures.after in (
       omega (arith, c.loop-start.invariant.0, sum-on (length-of slots) i),
-      omega (arith, largest-is c, c.loop-start.invariant.0, c.loop-start.invariant.1, c.moved-on-reach.ensures.sum, top-on (met-from c.args.cycle (length slots) slots c.args.ticks) i),
-      omega (arith, c.moved-on-reach.ensures.end),
-      c.moved-on-reach.ensures.sum,
-      λ h j l. omega (arith, c.moved-on-reach.ensures.before j l, c.requires.rising i (i + 1) (omega arith) h),
+      omega (arith, largest-is c, c.loop-start.invariant.0, c.loop-start.invariant.1, c.moved_on-reach.ensures.sum, top-on (met-from c.args.cycle (length slots) slots c.args.ticks) i),
+      omega (arith, c.moved_on-reach.ensures.end),
+      c.moved_on-reach.ensures.sum,
+      λ h j l. omega (arith, c.moved_on-reach.ensures.before j l, c.requires.rising i (i + 1) (omega arith) h),
     )
 
 pub returns : goal.returns

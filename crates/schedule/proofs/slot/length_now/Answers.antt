@@ -3,8 +3,8 @@ use Rattle.schedule.proofs.Slots.{found-small, found_here, found-elsewhere}
 use Rattle.schedule.proofs.slot.length_now.Goals as goal
 use Rattle.schedule.proofs.slot.length_now.Goals.{then-slot-phase, else-slot-phase}
 
-pub overflow-add-found : goal.overflow-add-found
-overflow-add-found c =
+pub overflow_add-found : goal.overflow_add-found
+overflow_add-found c =
     let i = c.loop-slot.slot-index in
     omega (arith, c.loop-slot.invariant, found-small c.args.slots.now c.args.phase i c.requires.lengths, c.requires.lengths i)
 

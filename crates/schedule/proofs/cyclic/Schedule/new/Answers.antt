@@ -3,14 +3,15 @@ use Rattle.schedule.specs.Phases.{none}
 use Rattle.schedule.proofs.Slots.{none-at}
 use Rattle.schedule.proofs.cyclic.Schedule.new.Goals as goal
 
-pub invariant-of-result : goal.invariant-of-result
-invariant-of-result c = (
-  refl,
-  (
-    omega arith,
-    (
-      (omega arith, omega arith),
-      ((λ i j l m. omega arith), ((λ i l. omega arith), ((λ i. omega (arith, ap (λ s. s.offset) (none-at 64 i))), ((λ i. omega (arith, ap (λ s. s.length) (none-at 64 i))), (refl, tt))))),
-    ),
-  ),
-)
+pub invariant_of-result : goal.invariant_of-result
+invariant_of-result c =
+    record {
+      held = refl;
+      few = omega arith;
+      turn = (omega arith, omega arith);
+      rising = λ i j l m. omega arith;
+      below = λ i l. omega arith;
+      offsets = λ i. omega (arith, ap (λ s. s.offset) (none-at 64 i));
+      lengths = λ i. omega (arith, ap (λ s. s.length) (none-at 64 i));
+      all = refl;
+    }

@@ -3,8 +3,8 @@ use Rattle.schedule.specs.Phases.{View, length_at}
 use Rattle.schedule.specs.Views.{allowance-one, front_length, front-lengths, front-length-at}
 use Rattle.schedule.proofs.cyclic.Schedule.open.Goals as goal
 
-pub length-now-requires : goal.length-now-requires
-length-now-requires c =
+pub length_now-requires : goal.length_now-requires
+length_now-requires c =
     let s = c.args.self.now in
     let short : s.count ≤ length s.slots = omega arith in
     record { few = omega (arith, front_length s.slots s.count short); lengths = front-lengths s.slots s.count short s.lengths }
@@ -14,4 +14,4 @@ returns c =
     let s = c.args.self.now in
     let short : s.count ≤ length s.slots = omega arith in
     let v : View = record { cycle = s.cycle; count = s.count; slots = s.slots; phase = s.phase; taken = s.taken } in
-    c.length-now.ensures ∙ front-length-at s.slots s.count short s.phase ∙ sym (allowance-one v ∙ ap (λ b. cond b 0 (length_at s.count s.slots s.phase)) c.if-self.false)
+    c.length_now.ensures ∙ front-length-at s.slots s.count short s.phase ∙ sym (allowance-one v ∙ ap (λ b. cond b 0 (length_at s.count s.slots s.phase)) c.if-self.false)
