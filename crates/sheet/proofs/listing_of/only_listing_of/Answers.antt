@@ -3,4 +3,4 @@ use Rattle.sheet.proofs.Telling.{only-listed}
 use Rattle.sheet.proofs.listing_of.only_listing_of.Goals as goal
 
 pub returns : goal.returns
-returns c = record { listed = c.listing-of.ensures; only = only-listed (read c.args.sheet.now) }
+returns c = record { listed = c.listing_of.ensures; only = only-listed (read c.args.sheet.now) }

@@ -6,5 +6,5 @@ use Rattle.sheet.proofs.marking.marked.Goals as goal
 
 pub returns : goal.returns
 returns c =
-    let x = c.in-ok-finished.finished in
-    listed-accepted (read c.args.sheet.now) (record { plan = view x.draft; lines = x.lines }) c.in-ok-bounds.bounds (marks-text c.marks-of.result) c.in-ok-finished.ensures c.in-ok-bounds.ensures c.marks-of.ensures
+    let x = c.in_ok-finished.finished in
+    listed-accepted (read c.args.sheet.now) (record { plan = view x.draft; lines = x.lines }) c.in_ok-bounds.bounds (marks-text c.marks_of.result) c.in_ok-finished.ensures c.in_ok-bounds.ensures c.marks_of.ensures

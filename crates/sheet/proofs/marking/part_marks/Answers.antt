@@ -12,11 +12,11 @@ loop-place-preserved c =
     let n = c.loop-place.place in
     let same : marks.part_count ≡ n = c.loop-place.invariant.0 in
     let inside : n < p.irqs = omega (arith, c.count-place-end.ensures) in
-    let taken = c.add-part.ensures.added (c.add-part.ensures.answer ∙ lt-ltb marks.part_count 9 (omega (arith, c.args.draft.now.rack.few))) in
-    let here = c.unwrap-or.ensures ∙ load-asked p n c.load.result inside c.load.ensures in (
+    let taken = c.add_part.ensures.added (c.add_part.ensures.answer ∙ lt-ltb marks.part_count 9 (omega (arith, c.args.draft.now.rack.few))) in
+    let here = c.unwrap_or.ensures ∙ load-asked p n c.load.result inside c.load.ensures in (
       taken.1 ∙ ap (λ k. k + 1) same,
-      load-more p marks.parts c.add-part.new.self.parts marks.part_count n c.unwrap-or.result same (omega (arith, marks.part_room, c.args.draft.now.rack.few)) taken.0 here c.loop-place.invariant.1,
-      c.add-part.ensures.tasks.1 ∙ c.loop-place.invariant.2,
+      load-more p marks.parts c.add_part.new.self.parts marks.part_count n c.unwrap_or.result same (omega (arith, marks.part_room, c.args.draft.now.rack.few)) taken.0 here c.loop-place.invariant.1,
+      c.add_part.ensures.tasks.1 ∙ c.loop-place.invariant.2,
     )
 
 pub returns : goal.returns
@@ -27,9 +27,9 @@ returns c =
     let end : n ≡ p.irqs = omega (arith, c.count-place-end.ensures) in
     let same : marks.part_count ≡ p.irqs = c.loop-place.invariant.0 ∙ end in
     let so_far : (k : ℕ) → k < p.irqs → get_or marks.parts k 0 ≡ part-load p k = subst (λ m. (k : ℕ) → k < m → get_or marks.parts k 0 ≡ part-load p k) end c.loop-place.invariant.1 in
-    let taken = c.add-part-2.ensures.added (c.add-part-2.ensures.answer ∙ lt-ltb marks.part_count 9 (omega (arith, c.args.draft.now.rack.few))) in
+    let taken = c.add_part-2.ensures.added (c.add_part-2.ensures.answer ∙ lt-ltb marks.part_count 9 (omega (arith, c.args.draft.now.rack.few))) in
     record {
       count = taken.1 ∙ ap (λ k. k + 1) same;
-      loads = load-more p marks.parts c.add-part-2.new.self.parts marks.part_count p.irqs c.load-2.result same (omega (arith, marks.part_room, c.args.draft.now.rack.few)) taken.0 (c.load-2.ensures ∙ schedule-load p) so_far;
-      tasks = c.add-part-2.ensures.tasks.1 ∙ c.loop-place.invariant.2;
+      loads = load-more p marks.parts c.add_part-2.new.self.parts marks.part_count p.irqs c.load-2.result same (omega (arith, marks.part_room, c.args.draft.now.rack.few)) taken.0 (c.load-2.ensures ∙ schedule-load p) so_far;
+      tasks = c.add_part-2.ensures.tasks.1 ∙ c.loop-place.invariant.2;
     }

@@ -8,35 +8,35 @@ use Rattle.sheet.specs.Views.{view}
 use Rattle.sheet.proofs.Lining.{short-enough, line_first, line-open, at-end}
 use Rattle.sheet.proofs.reading.read.Goals as goal
 
-pub returns-in-default : goal.returns-in-default
-returns-in-default c =
+pub returns-in_default : goal.returns-in_default
+returns-in_default c =
     let rest = c.loop-rest.rest.now in
     let so_far = option_map view c.loop-rest.draft in
     let more : 1 ≤ length rest = omega (arith, eqb-false (length rest) 0 (sym c.loop-rest-test.ensures)) in
-    short-enough c.args.sheet.now c.if-sheet-gt-LONGEST-SHEET.false
+    short-enough c.args.sheet.now c.if-sheet-gt-LONGEST_SHEET.false
     ∙ sym c.loop-rest.invariant.1
-    ∙ line-open c.loop-rest.lines so_far rest more c.in-default.ensures
+    ∙ line-open c.loop-rest.lines so_far rest more c.in_default.ensures
     ∙ (λ i. Err (record { fault = sym c.new.ensures.fault i; line = sym c.new.ensures.line i; task = sym c.new.ensures.task i }))
 
-pub returns-in-err-step : goal.returns-in-err-step
-returns-in-err-step c =
+pub returns-in_err-step : goal.returns-in_err-step
+returns-in_err-step c =
     let rest = c.loop-rest.rest.now in
     let after = c.in-Some.after.now in
     let so_far = option_map view c.loop-rest.draft in
     let line = c.in-Some.ensures in
-    let p = err_from_is_err_and c.from-residual.result c.from-residual.ensures.1 in
+    let p = err_from_is_err_and c.from_residual.result c.from_residual.ensures.1 in
     rw (p.1, p.2)
     (
-    short-enough c.args.sheet.now c.if-sheet-gt-LONGEST-SHEET.false
+    short-enough c.args.sheet.now c.if-sheet-gt-LONGEST_SHEET.false
     ∙ sym c.loop-rest.invariant.1
     ∙ line_first c.loop-rest.lines so_far rest c.in-Some.bytes.now after line.0 line.1
-    ∙ ap (λ r. and_then r (λ q. read-on (c.loop-rest.lines + 1) (Some q) (pieces 10 after))) c.in-err-step.ensures
+    ∙ ap (λ r. and_then r (λ q. read-on (c.loop-rest.lines + 1) (Some q) (pieces 10 after))) c.in_err-step.ensures
     )
 
 pub returns-in-Some-draft : goal.returns-in-Some-draft
 returns-in-Some-draft c =
     let rest = c.loop-rest.rest.now in
-    short-enough c.args.sheet.now c.if-sheet-gt-LONGEST-SHEET.false
+    short-enough c.args.sheet.now c.if-sheet-gt-LONGEST_SHEET.false
     ∙ sym c.loop-rest.invariant.1
     ∙ at-end c.loop-rest.lines (option_map view c.loop-rest.draft) rest (eqb-true (length rest) 0 (sym c.loop-rest-test.ensures))
     ∙ ap (λ d. ended c.loop-rest.lines (option_map view d)) c.in-Some-draft.is
@@ -44,7 +44,7 @@ returns-in-Some-draft c =
 pub returns-in-None : goal.returns-in-None
 returns-in-None c =
     let rest = c.loop-rest.rest.now in
-    short-enough c.args.sheet.now c.if-sheet-gt-LONGEST-SHEET.false
+    short-enough c.args.sheet.now c.if-sheet-gt-LONGEST_SHEET.false
     ∙ sym c.loop-rest.invariant.1
     ∙ at-end c.loop-rest.lines (option_map view c.loop-rest.draft) rest (eqb-true (length rest) 0 (sym c.loop-rest-test.ensures))
     ∙ ap (λ d. ended c.loop-rest.lines (option_map view d)) c.in-None.is
@@ -56,7 +56,7 @@ loop-rest-preserved c =
     let after = c.in-Some.after.now in
     let line = c.in-Some.ensures in (
       omega (arith, line.2, c.loop-rest.invariant.0),
-      sym (ap (λ r. and_then r (λ q. read-on (c.loop-rest.lines + 1) (Some q) (pieces 10 after))) c.in-ok-step.ensures)
+      sym (ap (λ r. and_then r (λ q. read-on (c.loop-rest.lines + 1) (Some q) (pieces 10 after))) c.in_ok-step.ensures)
           ∙ sym (line_first c.loop-rest.lines (option_map view c.loop-rest.draft) rest c.in-Some.bytes.now after line.0 line.1)
           ∙ c.loop-rest.invariant.1,
     )

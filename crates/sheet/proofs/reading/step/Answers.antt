@@ -12,4 +12,4 @@ returns-in-Ok c = ap (at-line c.args.line.number) (sym (same_next (option_map vi
 pub returns-in-Err : goal.returns-in-Err
 returns-in-Err c =
     ap (at-line c.args.line.number) (sym (same_next (option_map view c.args.draft) (read-line c.args.line.bytes.now)) ∙ c.in-Err.ensures)
-    ∙ (λ i. Err (record { fault = sym c.on-line.ensures.fault i; line = sym c.on-line.ensures.line i; task = sym c.on-line.ensures.task i }))
+    ∙ (λ i. Err (record { fault = sym c.on_line.ensures.fault i; line = sym c.on_line.ensures.line i; task = sym c.on_line.ensures.task i }))
