@@ -1,4 +1,6 @@
 // Going round a cycle of places: the step from one place to the next.
+#![tactic(auto)]
+
 ghost use Rattle.std.specs.Prelude.{◌≡◌};
 ghost use Rattle.cycles.specs.Round.{next};
 

@@ -1,6 +1,5 @@
 -- Division and rounding up.
-use Prim.Native.Nat.{ℕ, ◌+◌, ◌-◌, ◌*◌, ◌/◌, ◌≤◌, ◌<◌}
-use mathlib.Core.Path.{◌≡◌}
+use Prim.Native.Nat.{ℕ, ◌+◌, ◌-◌, ◌≤◌, ◌<◌}
 use native.Mathlib.Omega.{arith}
 use native.Mathlib.Nat.{lt-div-mul-add, div-lt_iff_lt-mul, add-mul, one-mul}
 use Rattle.loads.specs.Share.{rounded-up, RoundedUp}

@@ -1,4 +1,6 @@
 // Load: the share of the processor's time that a part or a task asks for.
+#![tactic(auto)]
+
 ghost use Rattle.std.specs.Prelude.{◌*◌, ◌≤◌, ◌≡◌};
 ghost use Rattle.loads.specs.Share.{load_of, RoundedUp};
 

@@ -1,8 +1,8 @@
 -- Successive costs: what the loops over them keep.
-use Rattle.std.proofs.Common.{◌≡◌, ℕ, zero, suc, ◌+◌, ◌-◌, ◌*◌, ◌<◌, ◌≤◌, max, Bool, true, false, cond, ltb, List, [], ◌∷◌, length, get_or, take, sym, refl, ap, ◌∙◌, subst, arith}
+use Rattle.std.proofs.Common.{◌≡◌, ℕ, zero, suc, ◌+◌, ◌-◌, ◌*◌, ◌<◌, ◌≤◌, max, cond, ltb, List, [], ◌∷◌, length, get_or, take, sym, ap, ◌∙◌, arith}
 use Rattle.std.proofs.lemmas.List.{length-take-le, get_or-take}
 use Rattle.std.proofs.lemmas.Bool.{lt-ltb}
-use Rattle.cycles.specs.Round.{sum, top, next, met, onward}
+use Rattle.cycles.specs.Round.{sum, top, met, onward}
 use Rattle.cycles.proofs.Rounds.{top-on, met-slides, met-least, onward-at, onward-within, sum_same, met-same, top-same}
 use Rattle.paced.specs.Runs.{at, largest, largest-from}
 

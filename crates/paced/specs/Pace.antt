@@ -1,7 +1,7 @@
 -- Paced work. A part has a period T, a jitter J and 1 to 8 costs in a cycle; a level v and the place f of the next cost
 -- say what was offered so far.
-use Rattle.std.specs.Prelude.{◌≡◌, ℕ, zero, suc, ◌+◌, ◌-◌, ◌*◌, ◌/◌, ◌<◌, ◌≤◌, Bool, true, false, cond, ◌&&◌, List, [], length, nat_le}
-use Rattle.cycles.specs.Round.{sum, top, next, met}
+use Rattle.std.specs.Prelude.{◌≡◌, ℕ, zero, suc, ◌+◌, ◌-◌, ◌/◌, ◌<◌, ◌≤◌, cond, [], length, nat_le}
+use Rattle.cycles.specs.Round.{top, next, met}
 use Rattle.paced.specs.Runs.{at, largest}
 use Rattle.paced.specs.declared.row.Row.{Row}
 

@@ -1,9 +1,9 @@
 -- A row of paced work owes what a source and a gate owe.
-use Rattle.std.specs.Prelude.{◌≡◌, ℕ, zero, suc, ◌+◌, ◌-◌, ◌*◌, ◌/◌, ◌%◌, ◌<◌, ◌≤◌, max, Bool, true, false, cond, leb, ◌⊎◌, ◌≢◌, nat_le, refl}
+use Rattle.std.specs.Prelude.{◌≡◌, ℕ, zero, suc, ◌+◌, ◌-◌, ◌*◌, ◌/◌, ◌%◌, ◌<◌, ◌≤◌, true, cond, leb, ◌≢◌, nat_le, refl}
 use Rattle.std.proofs.Common.{sym, ap, ◌∙◌, subst, inl, inr, arith, add-one, div-le_self, le-div_iff_mul-le, div-mul-le_self}
 use Rattle.std.proofs.Math.Nat.{div-eq_of_lt, div-eq-sub-div}
-use Rattle.std.proofs.lemmas.Bool.{leb-true, leb-false, le-leb, lt-leb, cond-true, cond-false, cond_both, cases_lt, cases_Bool}
-use Rattle.cycles.specs.Round.{sum, top, next, met, onward}
+use Rattle.std.proofs.lemmas.Bool.{leb-true, le-leb, cond-true, cond-false, cond_both, cases_Bool}
+use Rattle.cycles.specs.Round.{sum, next}
 use Rattle.cycles.proofs.Rounds.{top_least, top-at, top-rises, top_split, met-rises, met-least, next-within}
 use Rattle.paced.specs.Runs.{at, largest}
 use Rattle.paced.specs.Pace.{run, arrivals, coming, demand, allowance, given, later, Fit}

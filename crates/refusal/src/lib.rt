@@ -1,4 +1,6 @@
 // Why a call or a sheet is refused: the fault, and the line and the task that it is about.
+#![tactic(auto)]
+
 ghost use Rattle.std.specs.Prelude.{◌≡◌};
 ghost use Rattle.refusal.specs.Table.{row, told, first_of};
 

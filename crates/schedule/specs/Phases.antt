@@ -1,6 +1,6 @@
 -- A schedule: a cycle of c ticks, and n pairs of offset and length. At the tick of its phase that is the offset of a
 -- pair, units up to the length of that pair may be offered, once.
-use Rattle.std.specs.Prelude.{◌≡◌, ℕ, zero, suc, ◌+◌, ◌*◌, ◌<◌, ◌≤◌, Bool, true, false, cond, List, ◌==◌, slice_index_or}
+use Rattle.std.specs.Prelude.{◌≡◌, ℕ, zero, suc, ◌+◌, Bool, true, false, cond, List, ◌==◌, slice_index_or}
 use Rattle.cycles.specs.Round.{sum, top, next, met}
 use Rattle.source.specs.Facts.{single, offerable}
 use Rattle.schedule.specs.declared.slot.Slot.{Slot}

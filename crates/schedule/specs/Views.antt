@@ -1,14 +1,14 @@
 -- A schedule owes what a source and a gate owe.
-use Rattle.std.specs.Prelude.{◌≡◌, ℕ, zero, suc, ◌+◌, ◌-◌, ◌*◌, ◌/◌, ◌%◌, ◌<◌, ◌≤◌, Bool, true, false, cond, ◌⊎◌, List, length, get_or, take, ◌==◌, slice_index_or, refl}
+use Rattle.std.specs.Prelude.{◌≡◌, ℕ, zero, suc, ◌+◌, ◌-◌, ◌*◌, ◌/◌, ◌%◌, ◌<◌, ◌≤◌, true, cond, List, length, get_or, take, ◌==◌, slice_index_or}
 use Rattle.std.proofs.Common.{sym, ap, ◌∙◌, subst, arith, add-one, inl, inr}
 use Rattle.std.proofs.Math.Path.{fun_ext}
 use Rattle.std.proofs.lemmas.Bool.{cond_both, cases_lt}
 use Rattle.std.proofs.lemmas.List.{length-take-le, get_or-take, get_or_past}
-use Rattle.cycles.specs.Round.{sum, top, next, met}
-use Rattle.cycles.proofs.Rounds.{top-at, top_least, top-rises, top_split, met-rises, met-least, met-first, next-within, sum_same}
+use Rattle.cycles.specs.Round.{sum, top, met}
+use Rattle.cycles.proofs.Rounds.{top-at, top_least, top-rises, top_split, met-rises, met-least, met-first, sum_same}
 use Rattle.source.specs.Facts.{single, offerable, Sound, Kept, Taken, Ticked}
 use Rattle.source.proofs.Parts.{single-at, single-sound, single-kept, single-taken, single-ticked, offerable-parts, offerable-from, part-from}
-use Rattle.schedule.specs.Phases.{none, offset-of, length-of, if-at, length_at, lengths-met, demand-of, View, demand, allowance, offered, later, Gives}
+use Rattle.schedule.specs.Phases.{none, offset-of, length-of, if-at, length_at, lengths-met, View, demand, allowance, offered, later, Gives}
 use Rattle.schedule.specs.declared.slot.Slot.{Slot}
 use Rattle.schedule.specs.Windows.{whole_is, at-phase-small}
 

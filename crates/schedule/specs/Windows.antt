@@ -1,9 +1,9 @@
 -- Windows over a schedule: what is met from a pair on, in sums of lengths, and that a pair is the worst start.
-use Rattle.std.specs.Prelude.{◌≡◌, ℕ, zero, suc, ◌+◌, ◌-◌, ◌*◌, ◌<◌, ◌≤◌, max, Bool, true, false, cond, ◌⊎◌, ◌==◌, ◌≢◌, nat_lt, refl}
+use Rattle.std.specs.Prelude.{◌≡◌, ℕ, zero, suc, ◌+◌, ◌-◌, ◌<◌, ◌≤◌, cond, ◌⊎◌, ◌==◌, ◌≢◌, nat_lt, refl}
 use Rattle.std.proofs.Common.{sym, ap, ◌∙◌, subst, inl, inr, arith}
 use Rattle.std.proofs.lemmas.Bool.{cond-true, cond-false, cases_lt, cases_eq, lt-ltb, le-ltb, eq-eqb, ne_eqb}
-use Rattle.cycles.specs.Round.{sum, top, next, met, onward}
-use Rattle.cycles.proofs.Rounds.{met-plus, met-first, met-round, met-rises, onward-first, onward-round, next-within, top-at, top_least, top-rises}
+use Rattle.cycles.specs.Round.{sum, top, next, met}
+use Rattle.cycles.proofs.Rounds.{met-plus, met-first, met-rises, onward-first, onward-round, next-within, top-at, top_least, top-rises}
 use Rattle.cycles.proofs.Sums.{sum-swap, sum-front, sum-joined}
 
 -- n pairs with offsets o, strictly rising and below the cycle c, and lengths z

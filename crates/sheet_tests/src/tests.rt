@@ -23,9 +23,9 @@ fn untouched(bytes: &[u8]) -> bool {
 fn lists(rt: &impl Abort, sheet: &[u8], want: &[u8]) -> Result<(), Fail> {
     let mut buffer = [b'#'; 2056];
     let count = list(sheet, &mut buffer)?;
-    assert_eq!(rt; count, want.len());
-    assert_eq!(rt; buffer.get(0..count).unwrap_or(&[]), want);
-    assert!(rt; untouched(buffer.get(count..2056).unwrap_or(&[])));
+    assert_eq!(rt; count, want.len(), "{sheet:?}");
+    assert_eq!(rt; buffer.get(0..count).unwrap_or(&[]), want, "{sheet:?}");
+    assert!(rt; untouched(buffer.get(count..2056).unwrap_or(&[])), "{sheet:?}");
     Ok(())
 }
 
@@ -41,7 +41,7 @@ fn all_refused(rt: &impl Abort, heap: Global, cases: &[(u32, u32, &str)]) -> Res
             _ => "judge",
         };
         let want = format!(in heap; "refused {number} {layer} {line}\n")?;
-        lists(rt, case.2.as_bytes(), want.as_bytes()).note(case.2)?;
+        lists(rt, case.2.as_bytes(), want.as_bytes())?;
     }
     Ok(())
 }
@@ -397,7 +397,7 @@ fn accepted(rt: HostRuntime) -> Result<(), Fail> {
         ),
     ];
     for (sheet, want) in cases {
-        lists(&rt, sheet.as_bytes(), want.as_bytes()).note(sheet)?;
+        lists(&rt, sheet.as_bytes(), want.as_bytes())?;
     }
     Ok(())
 }
@@ -414,7 +414,7 @@ fn every_byte(rt: HostRuntime) -> Result<(), Fail> {
             _ => "refused 2 words 1\n",
         };
         let sheet = [b'c', b'y', b'c', b'l', b'e', b' ', byte, b'\n'];
-        lists(&rt, &sheet, want.as_bytes()).note(format_args!("byte {byte}"))?;
+        lists(&rt, &sheet, want.as_bytes())?;
     }
     Ok(())
 }
@@ -480,9 +480,7 @@ fn too_many_lines(rt: HostRuntime) -> Result<(), Fail> {
     for (pairs, irqs, tasks, last, want) in cases {
         let mut sheet = sheet_of(rt.alloc(), pairs, irqs, tasks)?;
         sheet.push_str(last)?;
-        lists(&rt, sheet.as_bytes(), want.as_bytes()).note(format_args!(
-            "{pairs} {irqs} {tasks} {last}"
-        ))?;
+        lists(&rt, sheet.as_bytes(), want.as_bytes())?;
     }
     Ok(())
 }
@@ -521,7 +519,7 @@ fn many_costs(rt: HostRuntime) -> Result<(), Fail> {
     for (costs, want) in cases {
         let mut sheet = format!(in rt.alloc(); "cycle 12\n")?;
         add_lines(&mut sheet, 1, "irq 1000 0", costs)?;
-        lists(&rt, sheet.as_bytes(), want.as_bytes()).note(format_args!("{costs} costs"))?;
+        lists(&rt, sheet.as_bytes(), want.as_bytes())?;
     }
     Ok(())
 }
@@ -567,12 +565,12 @@ fn reads(
     bound: u32,
 ) -> Result<(), Fail> {
     let mut plan = lent(rt)?;
-    assert_eq!(rt; read_plan(sheet, &mut plan), answer);
+    assert_eq!(rt; read_plan(sheet, &mut plan), answer, "{sheet:?}");
     let judged = plan.judge();
-    assert_eq!(rt; judged.verdict(), verdict);
+    assert_eq!(rt; judged.verdict(), verdict, "{sheet:?}");
     let mut bounds = [0];
     let _ = judged.bounds(&mut bounds);
-    assert_eq!(rt; bounds, [bound]);
+    assert_eq!(rt; bounds, [bound], "{sheet:?}");
     Ok(())
 }
 
@@ -621,8 +619,7 @@ fn refused_reading(rt: HostRuntime) -> Result<(), Fail> {
             Err(refusal),
             Verdict::Accepted(1),
             11,
-        )
-        .note(sheet)?;
+        )?;
     }
     let long = Refusal::plain(Fault::SheetTooLong);
     reads(&rt, &[b'a'; 16385], Err(long), Verdict::Accepted(1), 11)
@@ -654,7 +651,7 @@ fn good_reading(rt: HostRuntime) -> Result<(), Fail> {
         ),
     ];
     for (sheet, lines, verdict, bound) in cases {
-        reads(&rt, sheet.as_bytes(), Ok(lines), verdict, bound).note(sheet)?;
+        reads(&rt, sheet.as_bytes(), Ok(lines), verdict, bound)?;
     }
     Ok(())
 }

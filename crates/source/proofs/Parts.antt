@@ -1,5 +1,5 @@
 -- What is given for the parts of a source, and for no other number; sources and gates of one part.
-use Rattle.std.proofs.Common.{◌≡◌, ℕ, ◌+◌, ◌-◌, ◌<◌, ◌≤◌, Bool, true, false, cond, ◌&&◌, leb, sym, refl, ap, ◌∙◌, subst, arith}
+use Rattle.std.proofs.Common.{◌≡◌, ℕ, ◌+◌, ◌≤◌, Bool, true, false, cond, ◌&&◌, leb, refl, ap, arith}
 use Rattle.std.proofs.lemmas.Bool.{leb-true, le-leb, cond-true, cond-false, and_parts, and_from}
 use Rattle.source.specs.Facts.{isPart, single, offerable, Sound, Kept, Taken, Ticked}
 

@@ -1,7 +1,7 @@
 -- What a source and a gate owe. A source is work that goes before all tasks. It has parts, numbered from 1.
 -- demand k l is the most that part k may bring in any l ticks in a row, and never changes; allowance k l is the most
 -- that it may still bring in the next l ticks, and does. A gate is a source that can also be driven.
-use Rattle.std.specs.Prelude.{◌≡◌, ℕ, ◌+◌, ◌≤◌, Bool, true, false, cond, ◌&&◌, ◌≢◌, nat_le}
+use Rattle.std.specs.Prelude.{◌≡◌, ℕ, ◌+◌, ◌≤◌, Bool, false, cond, ◌&&◌, ◌≢◌, nat_le}
 
 -- k is a part of a source with n parts
 abbrev pub isPart : ℕ → ℕ → Bool

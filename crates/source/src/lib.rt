@@ -1,4 +1,6 @@
 // Work that goes before all tasks: what a source answers, how a gate is driven, and two of them side by side.
+#![tactic(auto)]
+
 ghost use Rattle.std.specs.Prelude.{◌≡◌, ℕ, ◌≤◌, true, false, ◌&&◌, if◌then◌else◌, Some, None, nat_le};
 ghost use Rattle.source.specs.Facts.{isPart, offerable, Sound, Kept, Taken, Ticked, Driven};
 

@@ -1,5 +1,4 @@
-use Rattle.std.proofs.Common.{◌*◌, ◌≤◌, arith}
-use Rattle.cycles.specs.Round.{sum}
+use Rattle.std.proofs.Common.{arith}
 use Rattle.cycles.proofs.Rounds.{sum-least, sum-on}
 use Rattle.paced.specs.Runs.{at}
 use Rattle.paced.proofs.row.whole.Goals as goal

@@ -1,8 +1,8 @@
-use Rattle.std.proofs.Common.{◌≡◌, ◌+◌, ◌-◌, max, length, sym, ap, ◌∙◌, arith}
-use Rattle.cycles.specs.Round.{sum, top}
+use Rattle.std.proofs.Common.{◌≡◌, ◌+◌, ◌-◌, max, length, ap, ◌∙◌, arith}
+use Rattle.cycles.specs.Round.{top}
 use Rattle.cycles.proofs.Rounds.{sum-on, top-on}
-use Rattle.schedule.specs.Phases.{offset-of, length-of}
-use Rattle.schedule.specs.Twice.{offset-twice, units-twice, met-from}
+use Rattle.schedule.specs.Phases.{length-of}
+use Rattle.schedule.specs.Twice.{met-from}
 use Rattle.schedule.proofs.Slots.{sum-small, window-is, pairs-are-worst}
 use Rattle.schedule.proofs.slot.largest_met.Goals as goal
 

@@ -1,4 +1,4 @@
-use Rattle.std.proofs.Common.{◌≡◌, ◌∙◌, arith}
+use Rattle.std.proofs.Common.{◌∙◌, arith}
 use Rattle.schedule.proofs.Slots.{found-small, found_here, found-elsewhere}
 use Rattle.schedule.proofs.slot.length_now.Goals as goal
 use Rattle.schedule.proofs.slot.length_now.Goals.{then-slot-phase, else-slot-phase}

@@ -1,4 +1,4 @@
-use Rattle.std.proofs.Common.{◌≡◌, ◌<◌, sym, ap, ◌∙◌, arith, below_more}
+use Rattle.std.proofs.Common.{◌<◌, arith, below_more}
 use Rattle.cycles.proofs.Rounds.{sum-on}
 use Rattle.schedule.specs.Twice.{offset-twice, units-twice}
 use Rattle.schedule.proofs.Slots.{twice-small, sum-twice-small}

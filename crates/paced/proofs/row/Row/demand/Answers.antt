@@ -1,4 +1,4 @@
-use Rattle.std.proofs.Common.{◌≡◌, ◌+◌, ◌-◌, ◌*◌, ◌/◌, ◌%◌, ◌≤◌, length, sym, ap, ◌∙◌, mod-lt, arith}
+use Rattle.std.proofs.Common.{◌≡◌, ◌+◌, ◌*◌, ◌/◌, ◌%◌, ◌≤◌, length, sym, ap, ◌∙◌, mod-lt, arith}
 use Rattle.cycles.specs.Round.{sum}
 use Rattle.paced.specs.Runs.{at, largest}
 use Rattle.paced.specs.Pace.{demand, arrivals, coming}

@@ -1,4 +1,4 @@
-use Rattle.std.proofs.Common.{◌≡◌, ◌-◌, ◌<◌, ◌≤◌, length, ◌∙◌, arith, length-set}
+use Rattle.std.proofs.Common.{◌-◌, ◌<◌, ◌≤◌, length, ◌∙◌, arith, length-set}
 use Rattle.schedule.specs.Phases.{offset-of}
 use Rattle.schedule.specs.declared.slot.Slot.{Slot}
 use Rattle.schedule.proofs.Slots.{sum-small, set-every, add-rising, add-below, add-sum}

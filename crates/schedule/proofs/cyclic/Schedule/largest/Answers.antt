@@ -1,4 +1,4 @@
-use Rattle.std.proofs.Common.{◌≡◌, ◌+◌, ◌*◌, ◌/◌, ◌%◌, ◌≤◌, length, sym, ap, ◌∙◌, mod-lt, arith}
+use Rattle.std.proofs.Common.{◌≡◌, ◌+◌, ◌*◌, ◌/◌, ◌%◌, ◌≤◌, length, sym, ◌∙◌, mod-lt, arith}
 use Rattle.cycles.specs.Round.{sum, top}
 use Rattle.schedule.specs.Phases.{View, length-of, lengths-met}
 use Rattle.schedule.specs.Views.{demand-split, front_length, front-offsets, front-lengths, front-rising, front_below, front-largest}

@@ -1,5 +1,4 @@
-use Rattle.std.proofs.Common.{◌≤◌, sym, refl, ap, subst, arith}
-use Rattle.schedule.specs.Phases.{none}
+use Rattle.std.proofs.Common.{refl, ap, arith}
 use Rattle.schedule.proofs.Slots.{none-at}
 use Rattle.schedule.proofs.cyclic.Schedule.new.Goals as goal
 

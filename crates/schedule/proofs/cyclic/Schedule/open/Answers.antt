@@ -1,4 +1,4 @@
-use Rattle.std.proofs.Common.{◌≡◌, ◌≤◌, false, cond, length, sym, ap, ◌∙◌, arith}
+use Rattle.std.proofs.Common.{◌≤◌, cond, length, sym, ap, ◌∙◌, arith}
 use Rattle.schedule.specs.Phases.{View, length_at}
 use Rattle.schedule.specs.Views.{allowance-one, front_length, front-lengths, front-length-at}
 use Rattle.schedule.proofs.cyclic.Schedule.open.Goals as goal
