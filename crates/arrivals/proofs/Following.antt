@@ -9,13 +9,12 @@ use Rattle.cycles.specs.Round.{next}
 use Rattle.cycles.proofs.Rounds.{next-on, next_last}
 use Rattle.paced.specs.Makes.{fault-of, fresh}
 use Rattle.paced.specs.Pace.{allowance, given, Fit}
-use Rattle.paced.specs.Runs.{at}
 use Rattle.paced.specs.declared.row.Row.{Row}
 use Rattle.paced.specs.Rows.{allowance-one, given-fit, later-fit}
 use Rattle.paced.proofs.Makings.{fresh-fit}
 use Rattle.arrivals.specs.declared.Step.{Step}
 use Rattle.arrivals.specs.declared.Step.TheVariants.{Tick, Offer}
-use Rattle.arrivals.specs.Steps.{takes, after, played}
+use Rattle.arrivals.specs.Steps.{takes, played}
 use Rattle.arrivals.specs.Times.{time, times, due, Answered, AllAnswered}
 use Rattle.arrivals.proofs.Playing.{length-played}
 use Rattle.arrivals.proofs.Explaining.{Next, next-none, next-tick, next-taken, explained-from, from-explained}

@@ -1,4 +1,6 @@
 // Drives one paced part from its start, and says which arrival times its answers stand for.
+#![tactic(auto)]
+
 ghost use Rattle.std.specs.Prelude.{◌≡◌, IfOk, Some, None, MatchResult, OnOk};
 ghost use Rattle.paced.specs.Makes.{fault-of, fresh};
 ghost use Rattle.arrivals.specs.Steps.{answer, after, played, moved};

@@ -1,5 +1,5 @@
 -- The bounds that the judge has found so far.
-use Rattle.std.proofs.Common.{◌≡◌, ℕ, ◌+◌, ◌<◌, ◌≤◌, ◌⊎◌, List, [], ◌∷◌, ◌++◌, length, get_or, take, drop, set, sym, ap, ◌∙◌, subst, inl, inr, append_assoc, arith, get_or-set_other, get_or-set_same}
+use Rattle.std.proofs.Common.{◌≡◌, ℕ, ◌+◌, ◌<◌, List, [], ◌∷◌, ◌++◌, length, get_or, take, drop, set, sym, ap, ◌∙◌, subst, inl, inr, append_assoc, arith, get_or-set_other, get_or-set_same}
 use Rattle.std.proofs.lemmas.List.{drop_more, take_more, set_at, length-take-le}
 use Rattle.std.proofs.lemmas.Bool.{cases_eq}
 

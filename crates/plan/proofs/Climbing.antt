@@ -1,5 +1,5 @@
 -- The need of a task rises with the window, so a window that is too small can be left for what is needed in it.
-use Rattle.std.proofs.Common.{◌≡◌, ℕ, ◌+◌, ◌<◌, ◌≤◌, ◌⊎◌, List, inl, inr, arith}
+use Rattle.std.proofs.Common.{ℕ, ◌<◌, ◌≤◌, List, inl, inr, arith}
 use Rattle.std.proofs.lemmas.Bool.{cases_lt}
 use Rattle.source.specs.Facts.{Sound}
 use Rattle.paced.specs.Tables.{row_at, demandsOf, allowancesOf}

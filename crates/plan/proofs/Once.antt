@@ -1,8 +1,8 @@
 -- A plan has one verdict and one bound for each task.
-use Rattle.std.proofs.Common.{◌≡◌, ℕ, ◌+◌, ◌-◌, ◌<◌, ◌≤◌, ◌⊎◌, List, get_or, sym, refl, ap, ◌∙◌, inl, inr, arith}
+use Rattle.std.proofs.Common.{◌≡◌, ℕ, ◌+◌, ◌-◌, ◌<◌, ◌≤◌, List, get_or, refl, ap, inl, inr, arith}
 use Rattle.std.proofs.lemmas.Bool.{cases_lt, cases_eq}
 use Rattle.paced.specs.declared.row.Row.{Row}
-use Rattle.plan.specs.Judged.{Bounded, Unbounded, Judged, Only-judged, bounds-told}
+use Rattle.plan.specs.Judged.{Bounded, Unbounded, Judged, Only-judged}
 use Rattle.plan.specs.Needs.{Smallest}
 use Rattle.plan.specs.declared.tasks.Limit.{Limit}
 use Rattle.plan.specs.declared.verdict.Verdict.{Verdict}

@@ -1,7 +1,6 @@
 -- The demand of the first parts of a source.
-use Rattle.std.proofs.Common.{◌≡◌, ℕ, zero, suc, ◌+◌, ◌*◌, ◌<◌, ◌≤◌, true, cond, ◌&&◌, leb, Some, None, Option, unwrap_or, sym, refl, ap, ◌∙◌, arith}
+use Rattle.std.proofs.Common.{◌≡◌, ℕ, zero, suc, ◌+◌, ◌*◌, ◌<◌, ◌≤◌, cond, ◌&&◌, leb, Some, None, Option, unwrap_or, ap, ◌∙◌, arith}
 use Rattle.std.proofs.lemmas.Bool.{and_from, le-leb}
-use Rattle.cycles.specs.Round.{sum}
 use Rattle.cycles.proofs.Rounds.{sum-on, sum-least}
 use Rattle.source.specs.Facts.{isPart, Sound}
 use Rattle.source.proofs.Parts.{part-from}

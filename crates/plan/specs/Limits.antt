@@ -1,5 +1,5 @@
 -- What a task has besides its paced part: blocking B, deadline D and longest hold N, and which tasks a plan takes.
-use Rattle.std.specs.Prelude.{◌≡◌, ℕ, zero, suc, ◌+◌, ◌<◌, ◌≤◌, Bool, true, false, cond, ◌&&◌, List, Some, None, Option, nat_le, slice_index_or}
+use Rattle.std.specs.Prelude.{ℕ, zero, suc, ◌+◌, Bool, true, cond, ◌&&◌, List, Some, None, Option, nat_le, slice_index_or}
 use Rattle.refusal.specs.Table.{first_of}
 use Rattle.refusal.specs.declared.Fault.{Fault}
 use Rattle.refusal.specs.declared.Fault.TheVariants.{OutOfRange, Misfit, HoldAboveBlocking}

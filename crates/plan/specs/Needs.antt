@@ -1,6 +1,6 @@
 -- What a window of l ticks has to hold for a task: its blocking, its largest cost, and the demand of all that goes before
 -- it. The bound is the smallest window that holds its need.
-use Rattle.std.specs.Prelude.{◌≡◌, ℕ, zero, suc, ◌+◌, ◌<◌, ◌≤◌, List, Some, None, Option}
+use Rattle.std.specs.Prelude.{ℕ, ◌+◌, ◌<◌, ◌≤◌, List, Some, None, Option}
 use Rattle.cycles.specs.Round.{sum}
 use Rattle.paced.specs.Pace.{largest-cost}
 use Rattle.paced.specs.Tables.{row_at, demandsOf}

@@ -1,4 +1,6 @@
 // The plan of a panel: its bank, its tasks, and the judge.
+#![tactic(auto)]
+
 mod judge;
 mod search;
 pub mod stages;

@@ -1,4 +1,4 @@
-use Rattle.std.proofs.Common.{◌≡◌, ℕ, ◌<◌, length, get_or, sym, ap, ◌∙◌, subst, arith, length-set}
+use Rattle.std.proofs.Common.{◌≡◌, ◌<◌, length, get_or, ◌∙◌, subst, arith, length-set}
 use Rattle.plan.specs.Judged.{Bounded, Unbounded}
 use Rattle.plan.proofs.Bounds.{bound-more}
 use Rattle.plan.proofs.judge.find.Goals as goal

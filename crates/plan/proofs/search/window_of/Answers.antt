@@ -1,4 +1,4 @@
-use Rattle.std.proofs.Common.{◌≡◌, ℕ, ◌<◌, ◌≤◌, sym, ap, ◌∙◌, arith}
+use Rattle.std.proofs.Common.{ℕ, ◌<◌, ◌≤◌, arith}
 use Rattle.paced.specs.Tables.{row_at}
 use Rattle.paced.specs.Together.{table-sound}
 use Rattle.plan.specs.Needs.{needed}

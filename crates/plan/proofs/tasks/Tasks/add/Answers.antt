@@ -1,4 +1,4 @@
-use Rattle.std.proofs.Common.{◌≡◌, ℕ, ◌+◌, ◌<◌, ◌≤◌, length, set, None, sym, refl, ap, ◌∙◌, subst, arith, length-set}
+use Rattle.std.proofs.Common.{◌≡◌, ℕ, ◌+◌, ◌<◌, ◌≤◌, length, set, None, sym, ◌∙◌, subst, arith, length-set}
 use Rattle.refusal.specs.Table.{first_of}
 use Rattle.paced.specs.Makes.{fresh}
 use Rattle.paced.specs.Tables.{row_at}
