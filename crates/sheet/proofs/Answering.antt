@@ -1,5 +1,5 @@
 -- What the judge says of a plan that was read.
-use Rattle.std.proofs.Common.{◌≡◌, ℕ, ◌-◌, ◌<◌, ◌≤◌, min, List, ◌++◌, length, get_or, take, drop, Ok, Err, sym, refl, ap, ◌∙◌, subst, arith}
+use Rattle.std.proofs.Common.{◌≡◌, ℕ, ◌-◌, ◌<◌, ◌≤◌, min, List, ◌++◌, length, get_or, take, drop, Ok, Err, ap, ◌∙◌, subst, arith}
 use Rattle.std.proofs.lemmas.List.{get_or_append_left, length-take-le, get_or-take}
 use Rattle.refusal.specs.Table.{told}
 use Rattle.refusal.specs.declared.Fault.TheVariants as faults
@@ -10,7 +10,6 @@ use Rattle.plan.specs.Judged.{outcome-of, bounds-told}
 use Rattle.plan.specs.declared.tasks.Tasks.{Tasks}
 use Rattle.plan.specs.declared.verdict.Verdict.{Verdict}
 use Rattle.plan.specs.declared.verdict.Verdict.TheVariants.{Accepted, NotJudgeable, Late}
-use Rattle.sheet.specs.Drafts.{Plan}
 use Rattle.sheet.specs.Marking.{JudgedPlan, Answered}
 use Rattle.sheet.specs.Reading.{Sheet}
 use Rattle.sheet.specs.Views.{of_parts}

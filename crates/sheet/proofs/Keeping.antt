@@ -1,14 +1,13 @@
 -- Nine costs are enough to see that there are too many: the rows make the same plan as the lines.
-use Rattle.std.proofs.Common.{◌≡◌, ℕ, ◌+◌, ◌-◌, ◌<◌, ◌≤◌, min, Bool, true, false, cond, eqb, ltb, leb, ◌⊎◌, List, ◌++◌, length, take, replicate, Some, None, Ok, Err, Option, Result, sym, refl, ap, ◌∙◌, inl, inr, arith}
-use Rattle.std.proofs.lemmas.List.{take_all, take_at, take-take, length-take, length-take-le, take-append-le}
+use Rattle.std.proofs.Common.{◌≡◌, ℕ, ◌+◌, ◌-◌, ◌<◌, min, Bool, true, false, cond, eqb, ltb, leb, List, ◌++◌, length, take, replicate, Some, None, Ok, Err, Option, Result, sym, refl, ap, ◌∙◌, inl, inr, arith}
+use Rattle.std.proofs.lemmas.List.{take_all, take_at, length-take-le}
 use Rattle.std.proofs.lemmas.Bool.{cases_lt, lt-leb, cond-false}
 use Rattle.refusal.specs.Table.{row, first_of}
 use Rattle.refusal.specs.declared.Fault.{Fault}
 use Rattle.refusal.specs.declared.Fault.TheVariants.{BadLine, TooMany, OutOfRange, Misfit}
-use Rattle.refusal.specs.declared.Refusal.{Refusal}
 use Rattle.paced.specs.Makes.{given-right, fault-of, adding}
-use Rattle.plan.specs.Limits.{limit-fault, task-fault}
-use Rattle.lines.specs.Rows.{Said, cycle, at, irq, task, costs-of, row_of, row_told}
+use Rattle.plan.specs.Limits.{limit-fault}
+use Rattle.lines.specs.Rows.{Said, cycle, at, irq, task, costs-of, row_told}
 use Rattle.sheet.specs.Drafts.{Plan, plain, with-irq, with-task, unless, irq-line, task-line}
 use Rattle.sheet.specs.Reading.{next}
 use Rattle.sheet.specs.Rowing.{kept, next_row}

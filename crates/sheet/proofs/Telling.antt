@@ -1,11 +1,10 @@
 -- What is told of parts and tasks, one after another.
-use Rattle.std.proofs.Common.{◌≡◌, ℕ, zero, suc, ◌+◌, ◌-◌, ◌<◌, ◌≤◌, true, false, cond, ltb, List, ◌++◌, length, get_or, set, Some, None, Ok, Err, Option, Result, unwrap_or, sym, refl, ap, ◌∙◌, subst, arith}
+use Rattle.std.proofs.Common.{◌≡◌, ℕ, zero, suc, ◌+◌, ◌-◌, ◌<◌, cond, ltb, List, ◌++◌, length, get_or, set, Some, None, Ok, Err, Option, Result, unwrap_or, sym, refl, ap, ◌∙◌, subst, arith}
 use Rattle.std.proofs.lemmas.Bool.{lt-ltb, le-ltb, cond-true, cond-false}
 use Rattle.source.specs.Facts.{isPart}
 use Rattle.source.proofs.Parts.{part-from}
 use Rattle.paced.specs.Loads.{row-load}
 use Rattle.paced.specs.Tables.{row_at}
-use Rattle.paced.specs.declared.row.Row.{Row}
 use Rattle.cycles.specs.Round.{sum}
 use Rattle.loads.specs.Share.{load_of}
 use Rattle.schedule.specs.Phases.{length-of}

@@ -1,4 +1,6 @@
 // From the bytes of a plan sheet to a plan and its listing.
+#![tactic(auto)]
+
 mod draft;
 mod listing_of;
 mod marking;

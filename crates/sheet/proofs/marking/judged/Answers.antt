@@ -1,4 +1,4 @@
-use Rattle.std.proofs.Common.{◌≡◌, ℕ, ◌-◌, Ok, Err, sym, ap, ◌∙◌}
+use Rattle.std.proofs.Common.{◌≡◌, ◌-◌, Ok, Err, ap, ◌∙◌}
 use Rattle.refusal.specs.Table.{told}
 use Rattle.plan.specs.Judged.{outcome-of}
 use Rattle.sheet.specs.Marking.{JudgedPlan}

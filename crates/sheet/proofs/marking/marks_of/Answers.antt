@@ -1,4 +1,4 @@
-use Rattle.std.proofs.Common.{◌≡◌, ℕ, ◌+◌, ◌<◌, ◌++◌, get_or, sym, ap, ◌∙◌, subst, arith}
+use Rattle.std.proofs.Common.{◌≡◌, ◌+◌, ◌++◌, get_or, ◌∙◌, arith}
 use Rattle.listing.specs.Texts.{accepted-line, part-line, task-line, numbered, unmarked}
 use Rattle.sheet.specs.Marking.{part-load, task-mark}
 use Rattle.sheet.specs.Views.{view}
