@@ -1,4 +1,6 @@
 // The worked figures of docs/TIMING.md, proved from the definitions.
+#![tactic(auto)]
+
 ghost use Rattle.std.specs.Prelude.{◌≡◌};
 ghost use Rattle.figures.specs.Worked.{Figures};
 

@@ -1,4 +1,6 @@
 // A gate and a source that the libraries do not know, as another author would write them.
+#![tactic(auto)]
+
 ghost use Rattle.std.specs.Prelude.{◌≡◌, ℕ, ◌<◌, ◌≤◌, true, false, ◌&&◌, if◌then◌else◌, Some, None, MatchOption, nat_le};
 ghost use Rattle.source.specs.Facts.{isPart, offerable, Sound, Kept, Taken, Ticked, Driven};
 ghost use Rattle.gate_tests.specs.Stores.{held, alike, Gives};

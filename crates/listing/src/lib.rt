@@ -1,4 +1,6 @@
 // The listing of a marked plan sheet, written into a buffer of the caller's.
+#![tactic(auto)]
+
 mod lines;
 mod marks;
 mod pieces;

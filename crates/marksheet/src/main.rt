@@ -1,4 +1,6 @@
 // Marks a plan sheet: reads it from standard input and writes its listing to standard output.
+#![tactic(auto)]
+
 use listing::ROOM;
 use sheet::{LONGEST_SHEET, list};
 use std::io::{Read, Write};

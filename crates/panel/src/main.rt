@@ -1,5 +1,7 @@
 // Shows what a panel's bank asks for: the demand of each part and of the whole bank over windows of 1 to 24 ticks, and
 // what comes in over 24 ticks if every part brings all that it may. Then judges two plans over that bank.
+#![tactic(auto)]
+
 use paced::rack::Rack;
 use plan::stages::OpenPlan;
 use plan::tasks::Limit;

@@ -25,7 +25,10 @@ fn lists(rt: &impl Abort, sheet: &[u8], want: &[u8]) -> Result<(), Fail> {
     let count = list(sheet, &mut buffer)?;
     assert_eq!(rt; count, want.len(), "{sheet:?}");
     assert_eq!(rt; buffer.get(0..count).unwrap_or(&[]), want, "{sheet:?}");
-    assert!(rt; untouched(buffer.get(count..2056).unwrap_or(&[])), "{sheet:?}");
+    assert!(rt;
+        untouched(buffer.get(count..2056).unwrap_or(&[])),
+        "{sheet:?}"
+    );
     Ok(())
 }
 
@@ -542,7 +545,10 @@ fn short_buffers(rt: HostRuntime) {
 fn least_buffer(rt: HostRuntime) {
     let mut buffer = [b'#'; 2048];
     assert_eq!(rt; list(b"cycle 12\n", &mut buffer), Ok(18));
-    assert_eq!(rt; buffer.get(0..18).unwrap_or(&[]), b"refused 9 judge 0\n");
+    assert_eq!(rt;
+        buffer.get(0..18).unwrap_or(&[]),
+        b"refused 9 judge 0\n".as_slice()
+    );
     assert!(rt; untouched(buffer.get(18..2048).unwrap_or(&[])));
 }
 
