@@ -7,7 +7,7 @@ use Rattle.std.proofs.lemmas.Bool.{cases_lt}
 use Rattle.std.proofs.lemmas.Bool.Decides.{nat_tests, Decides-like}
 use Rattle.cycles.specs.Round.{next}
 use Rattle.cycles.proofs.Rounds.{next-on, next_last}
-use Rattle.paced.specs.Makes.{fault-of, fresh}
+use Rattle.paced.specs.Makes.{fault_of, fresh}
 use Rattle.paced.specs.Pace.{allowance, given, Fit}
 use Rattle.paced.specs.declared.row.Row.{Row}
 use Rattle.paced.specs.Rows.{allowance-one, given-fit, later-fit}
@@ -50,7 +50,7 @@ module _ (T J : ℕ) (costs : List ℕ) where
     pub place_is : f ≡ length ts % length costs
     pub fit : Fit (state v f)
 
-  pub held_first : fault-of T J costs ≡ None → Held [] J 0 0
+  pub held_first : fault_of T J costs ≡ None → Held [] J 0 0
   held_first right = record { soonest = 0; next-at = next-none T J; level-is = omega arith; place_is = sym (zero-mod (length costs)); fit = fresh-fit T J costs right }
 
   module _ (ts : List ℕ) (t v f : ℕ) (h : Held ts t v f) where
@@ -115,5 +115,5 @@ module _ (T J : ℕ) (costs : List ℕ) where
       refl
 
 -- a part from its start on
-pub played-answered : (T J : ℕ) (costs : List ℕ) (ss : List Step) (bs : List Bool) → fault-of T J costs ≡ None → AllAnswered T J costs ss (played (fresh T J costs) ss bs)
+pub played-answered : (T J : ℕ) (costs : List ℕ) (ss : List Step) (bs : List Bool) → fault_of T J costs ≡ None → AllAnswered T J costs ss (played (fresh T J costs) ss bs)
 played-answered T J costs ss bs right i u l m e = all-answered T J costs [] J 0 0 (held_first T J costs right) ss bs i u l (omega (arith, length-played (fresh T J costs) ss bs)) e

@@ -2,7 +2,7 @@
 #![tactic(auto)]
 
 ghost use Rattle.std.specs.Prelude.{◌≡◌, IfOk, Some, None, MatchResult, OnOk};
-ghost use Rattle.paced.specs.Makes.{fault-of, fresh};
+ghost use Rattle.paced.specs.Makes.{fault_of, fresh};
 ghost use Rattle.arrivals.specs.Steps.{answer, after, played, moved};
 ghost use Rattle.arrivals.specs.Times.{AllAnswered};
 
@@ -44,7 +44,7 @@ pub fn replay(
     steps: &[Step],
     taken: &mut [bool],
 ) -> Result<Paced, Refusal>
-    ensures refused { MatchResult result (λ _. fault-of period jitter costs.now ≡ None) (λ e. (fault-of period jitter costs.now ≡ Some e.fault) × (e.line ≡ 0) × (e.task ≡ 0) × (taken.new ≡ taken.old)) }
+    ensures refused { MatchResult result (λ _. fault_of period jitter costs.now ≡ None) (λ e. (fault_of period jitter costs.now ≡ Some e.fault) × (e.line ≡ 0) × (e.task ≡ 0) × (taken.new ≡ taken.old)) }
     ensures played { IfOk result (λ p. (taken.new ≡ played (fresh period jitter costs.now) steps.now taken.old) × (p.row ≡ moved (fresh period jitter costs.now) steps.now taken.old)) }
     ensures explained { OnOk result (AllAnswered period jitter costs.now steps.now taken.new) }
 {

@@ -4,12 +4,12 @@ use Rattle.std.specs.Prelude.{◌≡◌, ℕ, zero, suc, true, false, List, [], 
 use Rattle.loads.specs.Share.{load_of}
 use Rattle.source.specs.Facts.{offerable, single}
 use Rattle.source.specs.Sides.{both, beside}
-use Rattle.paced.specs.Loads.{row-load}
+use Rattle.paced.specs.Loads.{row_load}
 use Rattle.paced.specs.Makes.{fresh}
 use Rattle.paced.specs.Pace.{demand, given, later}
-use Rattle.paced.specs.Tables.{demandsOf, allowancesOf, only}
+use Rattle.paced.specs.Tables.{demands_of, allowances_of, only}
 use Rattle.paced.specs.declared.row.Row.{Row}
-use Rattle.schedule.specs.Phases.{demand-of}
+use Rattle.schedule.specs.Phases.{demand_of}
 use Rattle.schedule.specs.declared.slot.Slot.{Slot}
 use Rattle.plan.specs.Judged.{Judged}
 use Rattle.plan.specs.declared.tasks.Limit.{Limit}
@@ -39,14 +39,14 @@ waited (suc n) r = waited n (later r)
 
 -- the bank of the sample plan: that interrupt beside the schedule with pairs at 0 and 5
 abbrev pub bank : ℕ → ℕ → ℕ
-bank = beside 1 (demandsOf 1 (only jittery)) (single (demand-of 12 2 early))
+bank = beside 1 (demands_of 1 (only jittery)) (single (demand_of 12 2 early))
 
 -- its two tasks, the first with deadline d
-abbrev pub task-rows : List Row
-task-rows = fresh 40 0 (2 ∷ []) ∷ fresh 60 5 (3 ∷ 1 ∷ []) ∷ []
+abbrev pub task_rows : List Row
+task_rows = fresh 40 0 (2 ∷ []) ∷ fresh 60 5 (3 ∷ 1 ∷ []) ∷ []
 
-abbrev pub task-limits : ℕ → List Limit
-task-limits d = record { blocking = 2; deadline = d; hold = 0 } ∷ record { blocking = 0; deadline = 40; hold = 2 } ∷ []
+abbrev pub task_limits : ℕ → List Limit
+task_limits d = record { blocking = 2; deadline = d; hold = 0 } ∷ record { blocking = 0; deadline = 40; hold = 2 } ∷ []
 
 -- lines, each with its line feed
 abbrev pub text_of : List (List ℕ) → List ℕ
@@ -54,33 +54,33 @@ text_of [] = []
 text_of (line ∷ lines) = line ++ (10 ∷ text_of lines)
 
 -- the sample plan as a sheet, with this line for its first task
-abbrev pub sheet-with : List ℕ → List ℕ
-sheet-with first = text_of (codes "cycle 12" ∷ codes "at 0 3" ∷ codes "at 5 2" ∷ codes "irq 10 2 1" ∷ first ∷ codes "task 60 5 0 40 2 3 1" ∷ [])
+abbrev pub sheet_with : List ℕ → List ℕ
+sheet_with first = text_of (codes "cycle 12" ∷ codes "at 0 3" ∷ codes "at 5 2" ∷ codes "irq 10 2 1" ∷ first ∷ codes "task 60 5 0 40 2 3 1" ∷ [])
 
 pub record Figures : Type 0 where
-  pub early-5 : demand-of 12 2 early 5 ≡ 3
-  pub early-6 : demand-of 12 2 early 6 ≡ 5
-  pub early-12 : demand-of 12 2 early 12 ≡ 5
-  pub early-13 : demand-of 12 2 early 13 ≡ 8
-  pub late-2 : demand-of 12 2 late 2 ≡ 3
-  pub late-3 : demand-of 12 2 late 3 ≡ 5
-  pub jittery-8 : demand jittery 8 ≡ 1
-  pub jittery-9 : demand jittery 9 ≡ 2
-  pub jittery-18 : demand jittery 18 ≡ 2
-  pub jittery-19 : demand jittery 19 ≡ 3
-  pub uneven-5 : demand uneven 5 ≡ 4
-  pub uneven-10 : demand uneven 10 ≡ 7
-  pub uneven-30 : demand uneven 30 ≡ 16
+  pub early_5 : demand_of 12 2 early 5 ≡ 3
+  pub early_6 : demand_of 12 2 early 6 ≡ 5
+  pub early_12 : demand_of 12 2 early 12 ≡ 5
+  pub early_13 : demand_of 12 2 early 13 ≡ 8
+  pub late_2 : demand_of 12 2 late 2 ≡ 3
+  pub late_3 : demand_of 12 2 late 3 ≡ 5
+  pub jittery_8 : demand jittery 8 ≡ 1
+  pub jittery_9 : demand jittery 9 ≡ 2
+  pub jittery_18 : demand jittery 18 ≡ 2
+  pub jittery_19 : demand jittery 19 ≡ 3
+  pub uneven_5 : demand uneven 5 ≡ 4
+  pub uneven_10 : demand uneven 10 ≡ 7
+  pub uneven_30 : demand uneven 30 ≡ 16
   -- offered at the start, it refuses after 7 ticks and takes after 8
-  pub at-start : offerable 1 (allowancesOf 1 (only jittery)) 1 1 ≡ true
-  pub after-7 : offerable 1 (allowancesOf 1 (only (waited 7 (given jittery)))) 1 1 ≡ false
-  pub after-8 : offerable 1 (allowancesOf 1 (only (waited 8 (given jittery)))) 1 1 ≡ true
+  pub at_start : offerable 1 (allowances_of 1 (only jittery)) 1 1 ≡ true
+  pub after_7 : offerable 1 (allowances_of 1 (only (waited 7 (given jittery)))) 1 1 ≡ false
+  pub after_8 : offerable 1 (allowances_of 1 (only (waited 8 (given jittery)))) 1 1 ≡ true
   -- with deadline 15 the sample plan is accepted with the bounds 11 and 12, with deadline 10 it is refused for task 1
-  pub sample : Judged bank (both 1 1) (task-limits 15) 2 task-rows (Accepted 2) (11 ∷ 12 ∷ [])
-  pub too-late : Judged bank (both 1 1) (task-limits 10) 2 task-rows (Late 1) []
+  pub sample : Judged bank (both 1 1) (task_limits 15) 2 task_rows (Accepted 2) (11 ∷ 12 ∷ [])
+  pub too_late : Judged bank (both 1 1) (task_limits 10) 2 task_rows (Late 1) []
   -- the same as sheets: the listing of the first, and the refusal of the second
-  pub listing : Listed (sheet-with (codes "task 40 0 2 15 0 2")) (text_of (codes "accepted 2" ∷ codes "part 1 load 1000" ∷ codes "part 2 load 4167" ∷ codes "task 1 bound 11 deadline 15 load 500" ∷ codes "task 2 bound 12 deadline 40 load 334" ∷ []))
-  pub refusal : Listed (sheet-with (codes "task 40 0 2 10 0 2")) (text_of (codes "refused 10 judge 5" ∷ []))
+  pub listing : Listed (sheet_with (codes "task 40 0 2 15 0 2")) (text_of (codes "accepted 2" ∷ codes "part 1 load 1000" ∷ codes "part 2 load 4167" ∷ codes "task 1 bound 11 deadline 15 load 500" ∷ codes "task 2 bound 12 deadline 40 load 334" ∷ []))
+  pub refusal : Listed (sheet_with (codes "task 40 0 2 10 0 2")) (text_of (codes "refused 10 judge 5" ∷ []))
   -- five units in twelve ticks, and costs 3 and 1 in two periods of 60
-  pub load-schedule : load_of 5 12 ≡ 4167
-  pub load-task : row-load (fresh 60 5 (3 ∷ 1 ∷ [])) ≡ 334
+  pub load_schedule : load_of 5 12 ≡ 4167
+  pub load_task : row_load (fresh 60 5 (3 ∷ 1 ∷ [])) ≡ 334

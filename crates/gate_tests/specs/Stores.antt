@@ -1,6 +1,6 @@
 -- Two stores of units that are never filled up again, and parts that are all alike.
 use Rattle.std.specs.Prelude.{◌≡◌, ℕ, ◌-◌, true, cond, ◌&&◌, ◌==◌, nat_le}
-use Rattle.source.specs.Facts.{isPart, offerable}
+use Rattle.source.specs.Facts.{is_part, offerable}
 
 -- x for part 1, y for part 2, and 0 for any other number
 abbrev pub two : ℕ → ℕ → ℕ → ℕ
@@ -18,4 +18,4 @@ pub record Gives (x y k u x' y' : ℕ) : Type 0 where
 
 -- 1 for each of n parts over any window of at least a tick
 abbrev pub alike : ℕ → ℕ → ℕ → ℕ
-alike n k l = cond (isPart n k && nat_le 1 l) 1 0
+alike n k l = cond (is_part n k && nat_le 1 l) 1 0

@@ -1,8 +1,9 @@
 -- Two stores owe what a source and a gate owe.
+-- Lemmas only, which laws of traits cite; a reader of the definitions can pass over them.
 use Rattle.std.specs.Prelude.{◌≡◌, ℕ, ◌-◌, ◌≤◌, true, refl}
 use Rattle.std.proofs.Common.{arith}
 use Rattle.std.proofs.lemmas.Bool.Decides.{nat_tests}
-use Rattle.source.specs.Facts.{isPart, Sound, Kept, Taken, Ticked}
+use Rattle.source.specs.Facts.{is_part, Sound, Kept, Taken, Ticked}
 use Rattle.source.proofs.Parts.{offerable-parts}
 use Rattle.gate_tests.specs.Stores.{two, held, Gives}
 
@@ -26,7 +27,7 @@ stores-taken x y k u x' y' g =
     let first : x' ≡ x - two u 0 k = g.first in
     let second : y' ≡ y - two 0 u k = g.second in
     let within : u ≤ held x y k 1 = p.2 in
-    let part : isPart 2 k ≡ true = p.0 in
+    let part : is_part 2 k ≡ true = p.0 in
     record { within = λ l h. grind (arith, nat_tests); others = λ j l ne. grind (arith, nat_tests) }
 
 pub stores-ticked : (x y x' y' : ℕ) → x' ≡ x → y' ≡ y → Ticked (held x y) (held x' y')

@@ -2,7 +2,7 @@
 #![tactic(auto)]
 
 ghost use Rattle.std.specs.Prelude.{◌≡◌, ℕ, ◌<◌, ◌≤◌, true, false, ◌&&◌, if◌then◌else◌, Some, None, MatchOption, nat_le};
-ghost use Rattle.source.specs.Facts.{isPart, offerable, Sound, Kept, Taken, Ticked, Driven};
+ghost use Rattle.source.specs.Facts.{is_part, offerable, Sound, Kept, Taken, Ticked, Driven};
 ghost use Rattle.gate_tests.specs.Stores.{held, alike, Gives};
 ghost use Rattle.gate_tests.specs.Storing.{stores-sound, stores-kept, stores-taken, stores-ticked};
 ghost use Rattle.std.proofs.Common.{rules, arith};

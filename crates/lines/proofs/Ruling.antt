@@ -5,15 +5,15 @@ use Rattle.refusal.specs.declared.Fault.TheVariants.{BadLine}
 use Rattle.words.specs.Split.{before, onward, pieces}
 use Rattle.words.proofs.Cutting.{pieces-first}
 use Rattle.lines.specs.Numbers.{numbers_after}
-use Rattle.lines.specs.Rows.{kind-of, Said, said, said-by, told_of, row-said, row_told}
+use Rattle.lines.specs.Rows.{kind_of, Said, said, said_by, told_of, row_said, row_told}
 
-pub said-first : (line : List ℕ) → said-by (pieces 32 line) ≡ said (kind-of (before 32 line)) (numbers_after (onward 32 line))
-said-first line = ap said-by (pieces-first 32 line)
+pub said-first : (line : List ℕ) → said_by (pieces 32 line) ≡ said (kind_of (before 32 line)) (numbers_after (onward 32 line))
+said-first line = ap said_by (pieces-first 32 line)
 
 pub no-keyword : (o : Option (List ℕ)) → said None o ≡ None
 no-keyword None = refl
 no-keyword (Some ns) = refl
 
-pub told-row : (o : Option Said) → ok_or (row-said o) BadLine ≡ row_told (told_of None o)
+pub told-row : (o : Option Said) → ok_or (row_said o) BadLine ≡ row_told (told_of None o)
 told-row None = refl
 told-row (Some s) = refl

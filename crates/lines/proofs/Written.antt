@@ -4,14 +4,14 @@ use Rattle.std.proofs.lemmas.List.{ext_get_or}
 use Rattle.std.proofs.lemmas.Bool.{eqb-true, leb-true, le-leb, and_parts, and_from, or_left, or_right, cond-true}
 use Rattle.refusal.specs.declared.Fault.{Fault}
 use Rattle.refusal.specs.declared.Fault.TheVariants.{BadWord, ForeignByte}
-use Rattle.words.specs.Bytes.{is-letter, is_digit, known, clean}
+use Rattle.words.specs.Bytes.{is_letter, is_digit, known, clean}
 use Rattle.words.specs.Numbers.{all_digits, value_of}
-use Rattle.words.specs.Split.{pieces, joined, lacks, all-lack}
-use Rattle.words.specs.Tokens.{letters, as_number, all-letters, word_of, words-good, line-fault}
+use Rattle.words.specs.Split.{pieces, joined, lacks, all_lack}
+use Rattle.words.specs.Tokens.{letters, as_number, all_letters, word_of, words_good, line_fault}
 use Rattle.words.proofs.Cutting.{only-cut}
 use Rattle.words.proofs.Numbering.{numeral-parts, decimal-numeral, number-rule, value-of-decimal, decimal-lacks-space}
-use Rattle.lines.specs.Numbers.{followed-by, numbers_of}
-use Rattle.lines.specs.Rows.{spelling, reads, same, kind-of, Said, cycle, at, irq, task, kind, numbers, written, all_small, some-cost, Sayable, with-numbers, said, said-by, told_of, read-line, Line-rule}
+use Rattle.lines.specs.Numbers.{followed_by, numbers_of}
+use Rattle.lines.specs.Rows.{spelling, reads, same, kind_of, Said, cycle, at, irq, task, kind, numbers, written, all_small, some_cost, Sayable, with_numbers, said, said_by, told_of, read_line, LineRule}
 use Rattle.lines.specs.declared.row.Kind.{Kind}
 use Rattle.lines.specs.declared.row.Kind.TheVariants.{Cycle, At, Irq, Task}
 
@@ -39,17 +39,17 @@ kind-by w k false false true s hp hq hr hs e = let is : Irq ≡ k = cc in same-i
 kind-by w k false false false true hp hq hr hs e = let is : Task ≡ k = cc in same-is w (spelling Task) hs ∙ ap spelling is
 kind-by w k false false false false hp hq hr hs e = let z : ◌≡◌ {A = ℕ} 0 1 = cc in absurd (omega arith)
 
-kind-told : (w : List ℕ) (k : Kind) → kind-of w ≡ Some k → w ≡ spelling k
+kind-told : (w : List ℕ) (k : Kind) → kind_of w ≡ Some k → w ≡ spelling k
 kind-told w k e = kind-by w k (same w (spelling Cycle)) (same w (spelling At)) (same w (spelling Irq)) (same w (spelling Task)) refl refl refl refl e
 
-kind-back : (k : Kind) → kind-of (spelling k) ≡ Some k
+kind-back : (k : Kind) → kind_of (spelling k) ≡ Some k
 kind-back Cycle = refl
 kind-back At = refl
 kind-back Irq = refl
 kind-back Task = refl
 
 -- words that write numbers are these in decimal
-numbers_on : (w : List ℕ) (ws : List (List ℕ)) (ns : List ℕ) (o : Option ℕ) (os : Option (List ℕ)) → value_of w ≡ o → ((ms : List ℕ) → os ≡ Some ms → (ws ≡ map decimal ms) × (all_small ms ≡ true)) → followed-by o os ≡ Some ns → (w ∷ ws ≡ map decimal ns) × (all_small ns ≡ true)
+numbers_on : (w : List ℕ) (ws : List (List ℕ)) (ns : List ℕ) (o : Option ℕ) (os : Option (List ℕ)) → value_of w ≡ o → ((ms : List ℕ) → os ≡ Some ms → (ws ≡ map decimal ms) × (all_small ms ≡ true)) → followed_by o os ≡ Some ns → (w ∷ ws ≡ map decimal ns) × (all_small ns ≡ true)
 numbers_on w ws ns None None v more e = let z : ◌≡◌ {A = ℕ} 0 1 = cc in absurd (omega arith)
 numbers_on w ws ns None (Some ms) v more e = let z : ◌≡◌ {A = ℕ} 0 1 = cc in absurd (omega arith)
 numbers_on w ws ns (Some n) None v more e = let z : ◌≡◌ {A = ℕ} 0 1 = cc in absurd (omega arith)
@@ -71,15 +71,15 @@ numbers-back (n ∷ ns) h =
     let parts = and_parts (leb n 1000000) (all_small ns) h in
     let one : value_of (decimal n) ≡ Some n = value-of-decimal n (leb-true n 1000000 parts.0) in
     let others : numbers_of (map decimal ns) ≡ Some ns = numbers-back ns parts.1 in
-    λ i. followed-by (one i) (others i)
+    λ i. followed_by (one i) (others i)
 
 -- what a keyword says with its numbers has just these, and a cost where it wants one
 record Parts (k : Kind) (ns : List ℕ) (s : Said) : Type 0 where
   kind-is : kind s ≡ k
   numbers-are : numbers s ≡ ns
-  cost : some-cost s ≡ true
+  cost : some_cost s ≡ true
 
-parts-of : (k : Kind) (ns : List ℕ) (s : Said) → with-numbers k ns ≡ Some s → Parts k ns s
+parts-of : (k : Kind) (ns : List ℕ) (s : Said) → with_numbers k ns ≡ Some s → Parts k ns s
 parts-of Cycle [] s e = let z : ◌≡◌ {A = ℕ} 0 1 = cc in absurd (omega arith)
 parts-of Cycle (c ∷ []) s e = let is : cycle c ≡ s = cc in subst (Parts Cycle (c ∷ [])) is (record { kind-is = refl; numbers-are = refl; cost = refl })
 parts-of Cycle (c ∷ n ∷ ns) s e = let z : ◌≡◌ {A = ℕ} 0 1 = cc in absurd (omega arith)
@@ -99,7 +99,7 @@ parts-of Task (t ∷ j ∷ b ∷ d ∷ []) s e = let z : ◌≡◌ {A = ℕ} 0 1
 parts-of Task (t ∷ j ∷ b ∷ d ∷ h ∷ []) s e = let z : ◌≡◌ {A = ℕ} 0 1 = cc in absurd (omega arith)
 parts-of Task (t ∷ j ∷ b ∷ d ∷ h ∷ c ∷ cs) s e = let is : task t j b d h (c ∷ cs) ≡ s = cc in subst (Parts Task (t ∷ j ∷ b ∷ d ∷ h ∷ c ∷ cs)) is (record { kind-is = refl; numbers-are = refl; cost = le-leb 1 (length (c ∷ cs)) (omega arith) })
 
-with-back : (s : Said) → some-cost s ≡ true → with-numbers (kind s) (numbers s) ≡ Some s
+with-back : (s : Said) → some_cost s ≡ true → with_numbers (kind s) (numbers s) ≡ Some s
 with-back (cycle c) h = refl
 with-back (at o z) h = refl
 with-back (irq t j []) h = absurd (omega (arith, leb-true 1 0 h))
@@ -111,7 +111,7 @@ with-back (task t j b d y (c ∷ cs)) h = refl
 abbrev words-for : Said → List (List ℕ)
 words-for s = spelling (kind s) ∷ map decimal (numbers s)
 
-said-on : (w : List ℕ) (ws : List (List ℕ)) (s : Said) (o : Option Kind) (os : Option (List ℕ)) → kind-of w ≡ o → numbers_of ws ≡ os → said o os ≡ Some s → (w ∷ ws ≡ words-for s) × Sayable s
+said-on : (w : List ℕ) (ws : List (List ℕ)) (s : Said) (o : Option Kind) (os : Option (List ℕ)) → kind_of w ≡ o → numbers_of ws ≡ os → said o os ≡ Some s → (w ∷ ws ≡ words-for s) × Sayable s
 said-on w ws s None None k n e = let z : ◌≡◌ {A = ℕ} 0 1 = cc in absurd (omega arith)
 said-on w ws s None (Some ns) k n e = let z : ◌≡◌ {A = ℕ} 0 1 = cc in absurd (omega arith)
 said-on w ws s (Some x) None k n e = let z : ◌≡◌ {A = ℕ} 0 1 = cc in absurd (omega arith)
@@ -124,11 +124,11 @@ said-on w ws s (Some x) (Some ns) k n e =
       (ap all_small parts.numbers-are ∙ others.1, parts.cost),
     )
 
-said-told : (ws : List (List ℕ)) (s : Said) → said-by ws ≡ Some s → (ws ≡ words-for s) × Sayable s
+said-told : (ws : List (List ℕ)) (s : Said) → said_by ws ≡ Some s → (ws ≡ words-for s) × Sayable s
 said-told [] s e = let z : ◌≡◌ {A = ℕ} 0 1 = cc in absurd (omega arith)
-said-told (w ∷ ws) s e = said-on w ws s (kind-of w) (numbers_of ws) refl refl e
+said-told (w ∷ ws) s e = said-on w ws s (kind_of w) (numbers_of ws) refl refl e
 
-said-back : (s : Said) → Sayable s → said-by (words-for s) ≡ Some s
+said-back : (s : Said) → Sayable s → said_by (words-for s) ≡ Some s
 said-back s h = (λ i. said (kind-back (kind s) i) (numbers-back (numbers s) h.0 i)) ∙ with-back s h.1
 
 told-ok : (f : Option Fault) (o : Option Said) (s : Said) → told_of f o ≡ Ok s → o ≡ Some s
@@ -143,15 +143,15 @@ spelling-lacks At = refl
 spelling-lacks Irq = refl
 spelling-lacks Task = refl
 
-numbers-lack : (ns : List ℕ) → all_small ns ≡ true → all-lack 32 (map decimal ns) ≡ true
+numbers-lack : (ns : List ℕ) → all_small ns ≡ true → all_lack 32 (map decimal ns) ≡ true
 numbers-lack [] h = refl
 numbers-lack (n ∷ ns) h =
     let parts = and_parts (leb n 1000000) (all_small ns) h in
-    and_from (lacks 32 (decimal n)) (all-lack 32 (map decimal ns)) (decimal-lacks-space n (leb-true n 1000000 parts.0)) (numbers-lack ns parts.1)
+    and_from (lacks 32 (decimal n)) (all_lack 32 (map decimal ns)) (decimal-lacks-space n (leb-true n 1000000 parts.0)) (numbers-lack ns parts.1)
 
 pieces-written : (s : Said) → Sayable s → pieces 32 (written s) ≡ words-for s
 pieces-written s h =
-    let apart = and_from (lacks 32 (spelling (kind s))) (all-lack 32 (map decimal (numbers s))) (spelling-lacks (kind s)) (numbers-lack (numbers s) h.0) in
+    let apart = and_from (lacks 32 (spelling (kind s))) (all_lack 32 (map decimal (numbers s))) (spelling-lacks (kind s)) (numbers-lack (numbers s) h.0) in
     sym ((only-cut 32 (written s)).1 (words-for s) (record { some = omega arith; apart = apart; whole = refl }))
 
 -- and they are words
@@ -163,14 +163,14 @@ spelling-good Task = refl
 
 number-good : (w : List ℕ) (n : ℕ) → value_of w ≡ Some n → is_some (word_of w) ≡ true
 number-good [] n e = let z : ◌≡◌ {A = ℕ} 0 1 = cc in absurd (omega arith)
-number-good (c ∷ cs) n e = elim (all-letters (c ∷ cs)) as (λ b. is_some (cond b (Some (letters (c ∷ cs))) (as_number (value_of (c ∷ cs)))) ≡ true) [ true ↦ refl | false ↦ ap (λ o. is_some (as_number o)) e ]
+number-good (c ∷ cs) n e = elim (all_letters (c ∷ cs)) as (λ b. is_some (cond b (Some (letters (c ∷ cs))) (as_number (value_of (c ∷ cs)))) ≡ true) [ true ↦ refl | false ↦ ap (λ o. is_some (as_number o)) e ]
 
-numbers-good : (ns : List ℕ) → all_small ns ≡ true → words-good (map decimal ns) ≡ true
+numbers-good : (ns : List ℕ) → all_small ns ≡ true → words_good (map decimal ns) ≡ true
 numbers-good [] h = refl
 numbers-good (n ∷ ns) h =
     let parts = and_parts (leb n 1000000) (all_small ns) h in
     let one = number-good (decimal n) n (value-of-decimal n (leb-true n 1000000 parts.0)) in
-    and_from (is_some (word_of (decimal n))) (words-good (map decimal ns)) one (numbers-good ns parts.1)
+    and_from (is_some (word_of (decimal n))) (words_good (map decimal ns)) one (numbers-good ns parts.1)
 
 -- and all their bytes are known
 abbrev all-clean : List (List ℕ) → Bool
@@ -194,7 +194,7 @@ clean-digits : (w : List ℕ) → all_digits w ≡ true → clean w ≡ true
 clean-digits [] h = refl
 clean-digits (c ∷ w) h =
     let parts = and_parts (is_digit c) (all_digits w) h in
-    and_from (known c) (clean w) (or_right (is-letter c) (is_digit c || (eqb c 32 || eqb c 10)) (or_left (is_digit c) (eqb c 32 || eqb c 10) parts.0)) (clean-digits w parts.1)
+    and_from (known c) (clean w) (or_right (is_letter c) (is_digit c || (eqb c 32 || eqb c 10)) (or_left (is_digit c) (eqb c 32 || eqb c 10) parts.0)) (clean-digits w parts.1)
 
 clean-numbers : (ns : List ℕ) → all_small ns ≡ true → all-clean (map decimal ns) ≡ true
 clean-numbers [] h = refl
@@ -209,26 +209,26 @@ clean-spelling At = refl
 clean-spelling Irq = refl
 clean-spelling Task = refl
 
-no-fault : (line : List ℕ) (ws : List (List ℕ)) → clean line ≡ true → pieces 32 line ≡ ws → words-good ws ≡ true → line-fault line ≡ None
+no-fault : (line : List ℕ) (ws : List (List ℕ)) → clean line ≡ true → pieces 32 line ≡ ws → words_good ws ≡ true → line_fault line ≡ None
 no-fault line ws known cut good =
-    cond-true (clean line) (cond (words-good (pieces 32 line)) None (Some BadWord)) (Some ForeignByte) known
-    ∙ cond-true (words-good (pieces 32 line)) None (Some BadWord) (ap words-good cut ∙ good)
+    cond-true (clean line) (cond (words_good (pieces 32 line)) None (Some BadWord)) (Some ForeignByte) known
+    ∙ cond-true (words_good (pieces 32 line)) None (Some BadWord) (ap words_good cut ∙ good)
 
-written-good : (s : Said) → Sayable s → line-fault (written s) ≡ None
+written-good : (s : Said) → Sayable s → line_fault (written s) ≡ None
 written-good s h =
     let bytes = clean-joined (words-for s) (and_from (clean (spelling (kind s))) (all-clean (map decimal (numbers s))) (clean-spelling (kind s)) (clean-numbers (numbers s) h.0)) in
-    let good = and_from (is_some (word_of (spelling (kind s)))) (words-good (map decimal (numbers s))) (spelling-good (kind s)) (numbers-good (numbers s) h.0) in
+    let good = and_from (is_some (word_of (spelling (kind s)))) (words_good (map decimal (numbers s))) (spelling-good (kind s)) (numbers-good (numbers s) h.0) in
     no-fault (written s) (words-for s) bytes (pieces-written s h) good
 
-reads-back : (s : Said) → Sayable s → read-line (written s) ≡ Ok s
+reads-back : (s : Said) → Sayable s → read_line (written s) ≡ Ok s
 reads-back s h =
-    let says = ap said-by (pieces-written s h) ∙ said-back s h in
+    let says = ap said_by (pieces-written s h) ∙ said-back s h in
     λ i. told_of (written-good s h i) (says i)
 
-says-written : (line : List ℕ) (s : Said) → read-line line ≡ Ok s → (line ≡ written s) × Sayable s
+says-written : (line : List ℕ) (s : Said) → read_line line ≡ Ok s → (line ≡ written s) × Sayable s
 says-written line s e =
-    let told = said-told (pieces 32 line) s (told-ok (line-fault line) (said-by (pieces 32 line)) s e) in
+    let told = said-told (pieces 32 line) s (told-ok (line_fault line) (said_by (pieces 32 line)) s e) in
     (sym (only-cut 32 line).0.whole ∙ ap (joined 32) told.0, told.1)
 
-pub line-rule : (line : List ℕ) → Line-rule line
-line-rule line = ((λ s e. says-written line s e), λ s e h. ap read-line e ∙ reads-back s h)
+pub line-rule : (line : List ℕ) → LineRule line
+line-rule line = ((λ s e. says-written line s e), λ s e h. ap read_line e ∙ reads-back s h)

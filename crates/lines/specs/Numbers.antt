@@ -10,16 +10,16 @@ word_value (letters w) = None
 word_value (number n) = Some n
 
 -- a number before others, if there are both
-abbrev pub followed-by : Option ℕ → Option (List ℕ) → Option (List ℕ)
-followed-by (Some n) (Some ns) = Some (n ∷ ns)
-followed-by (Some n) None = None
-followed-by None (Some ns) = None
-followed-by None None = None
+abbrev pub followed_by : Option ℕ → Option (List ℕ) → Option (List ℕ)
+followed_by (Some n) (Some ns) = Some (n ∷ ns)
+followed_by (Some n) None = None
+followed_by None (Some ns) = None
+followed_by None None = None
 
 -- the numbers that some words write, if each writes one
 abbrev pub numbers_of : List (List ℕ) → Option (List ℕ)
 numbers_of [] = Some []
-numbers_of (w ∷ ws) = followed-by (value_of w) (numbers_of ws)
+numbers_of (w ∷ ws) = followed_by (value_of w) (numbers_of ws)
 
 -- the numbers on the rest of a line, which begins with the space after a word, or is empty
 abbrev pub numbers_after : List ℕ → Option (List ℕ)

@@ -5,7 +5,7 @@ ghost use Rattle.words.specs.Numbers.{value_of};
 ghost use Rattle.words.specs.Split.{before, onward, pieces};
 ghost use Rattle.words.specs.Tokens.{told};
 ghost use Rattle.lines.specs.Numbers.{word_value, front, behind, numbers_after};
-ghost use Rattle.lines.specs.Rows.{kind-of, said, said-by, costs-said, row-said, read-line, Line-rule, row_told};
+ghost use Rattle.lines.specs.Rows.{kind_of, said, said_by, costs_said, row_said, read_line, LineRule, row_told};
 
 use crate::row::{Costs, KEPT, Kind, Row};
 use refusal::Fault;
@@ -14,7 +14,7 @@ use words::token::{Line, Token, check_line, next_token};
 
 // The keyword that a word is.
 fn keyword(word: &[u8]) -> Option<Kind>
-    ensures { result ≡ kind-of word.now }
+    ensures { result ≡ kind_of word.now }
 {
     match word {
         [b'c', b'y', b'c', b'l', b'e'] => Some(Kind::Cycle),
@@ -69,7 +69,7 @@ fn pushed(mut costs: Costs, cost: u32) -> Costs
 
 // The costs on the rest of a line, to its end: at least one.
 fn costs_of<'a>(line: Line<'a>, rest: &'a [u8]) -> Option<Costs>
-    ensures { result ≡ costs-said (numbers_after rest.now) }
+    ensures { result ≡ costs_said (numbers_after rest.now) }
 {
     let mut costs = Costs {
         numbers: [0; 9],
@@ -93,7 +93,7 @@ fn ended(row: Row, rest: &[u8]) -> Option<Row>
 
 // The row of a `cycle` line, from the part after its keyword.
 fn cycle_row<'a>(line: Line<'a>, rest: &'a [u8]) -> Option<Row>
-    ensures { result ≡ row-said (said (Some Cycle) (numbers_after rest.now)) }
+    ensures { result ≡ row_said (said (Some Cycle) (numbers_after rest.now)) }
 {
     let (length, rest) = number(line, rest)?;
     ended(Row::Cycle { length }, rest)
@@ -101,7 +101,7 @@ fn cycle_row<'a>(line: Line<'a>, rest: &'a [u8]) -> Option<Row>
 
 // The row of an `at` line.
 fn at_row<'a>(line: Line<'a>, rest: &'a [u8]) -> Option<Row>
-    ensures { result ≡ row-said (said (Some At) (numbers_after rest.now)) }
+    ensures { result ≡ row_said (said (Some At) (numbers_after rest.now)) }
 {
     let (offset, rest) = number(line, rest)?;
     let (length, rest) = number(line, rest)?;
@@ -110,7 +110,7 @@ fn at_row<'a>(line: Line<'a>, rest: &'a [u8]) -> Option<Row>
 
 // The row of an `irq` line.
 fn irq_row<'a>(line: Line<'a>, rest: &'a [u8]) -> Option<Row>
-    ensures { result ≡ row-said (said (Some Irq) (numbers_after rest.now)) }
+    ensures { result ≡ row_said (said (Some Irq) (numbers_after rest.now)) }
 {
     let (period, rest) = number(line, rest)?;
     let (jitter, after) = number(line, rest)?;
@@ -124,7 +124,7 @@ fn irq_row<'a>(line: Line<'a>, rest: &'a [u8]) -> Option<Row>
 
 // The row of a `task` line.
 fn task_row<'a>(line: Line<'a>, rest: &'a [u8]) -> Option<Row>
-    ensures { result ≡ row-said (said (Some Task) (numbers_after rest.now)) }
+    ensures { result ≡ row_said (said (Some Task) (numbers_after rest.now)) }
 {
     let (period, rest) = number(line, rest)?;
     let (jitter, rest) = number(line, rest)?;
@@ -144,7 +144,7 @@ fn task_row<'a>(line: Line<'a>, rest: &'a [u8]) -> Option<Row>
 
 // The row of a keyword, from the part of the line after it.
 fn row_with<'a>(kind: Kind, line: Line<'a>, rest: &'a [u8]) -> Option<Row>
-    ensures { result ≡ row-said (said (Some kind) (numbers_after rest.now)) }
+    ensures { result ≡ row_said (said (Some kind) (numbers_after rest.now)) }
 {
     match kind {
         Kind::Cycle => cycle_row(line, rest),
@@ -156,7 +156,7 @@ fn row_with<'a>(kind: Kind, line: Line<'a>, rest: &'a [u8]) -> Option<Row>
 
 // What a line with good words says, if it is a line.
 fn said_by(line: Line) -> Option<Row>
-    ensures { result ≡ row-said (said-by (pieces 32 line.entry.bytes.now)) }
+    ensures { result ≡ row_said (said_by (pieces 32 line.entry.bytes.now)) }
 {
     let (word, rest) = first_word(line.bytes);
     let kind = keyword(word)?;
@@ -165,8 +165,8 @@ fn said_by(line: Line) -> Option<Row>
 
 // What a line says, or what is wrong with it: a byte or a word that is none, and only then that it is no line.
 pub fn row_of(line: Line) -> Result<Row, Fault>
-    ensures row { result ≡ row_told (read-line line.entry.bytes.now) }
-    ensures rule { Line-rule line.entry.bytes.now }
+    ensures row { result ≡ row_told (read_line line.entry.bytes.now) }
+    ensures rule { LineRule line.entry.bytes.now }
 {
     check_line(line)?;
     said_by(line).ok_or(Fault::BadLine)

@@ -5,14 +5,14 @@ use Rattle.refusal.specs.declared.Refusal.{Refusal}
 use Rattle.listing.specs.declared.marks.Marks.{Marks}
 use Rattle.listing.specs.declared.marks.Listing.{Listing}
 use Rattle.listing.specs.declared.marks.Listing.TheVariants.{Accepted, Refused}
-use Rattle.listing.specs.Texts.{accepted-text, refusal-text}
+use Rattle.listing.specs.Texts.{accepted_text, refusal_text}
 
-abbrev pub marks-text : Marks → List ℕ
-marks-text marks = accepted-text marks.part_count marks.parts marks.task_count marks.tasks
+abbrev pub marks_text : Marks → List ℕ
+marks_text marks = accepted_text marks.part_count marks.parts marks.task_count marks.tasks
 
-abbrev pub listing-text : Listing → List ℕ
-listing-text (Accepted marks) = marks-text marks
-listing-text (Refused refusal) = refusal-text refusal
+abbrev pub listing_text : Listing → List ℕ
+listing_text (Accepted marks) = marks_text marks
+listing_text (Refused refusal) = refusal_text refusal
 
 -- the refusal of a buffer that is too short for a listing
 abbrev pub too_short : Refusal

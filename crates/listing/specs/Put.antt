@@ -8,9 +8,9 @@ use Rattle.listing.specs.declared.pieces.Piece.TheVariants.{Fixed, Number}
 abbrev pub put : List ℕ → ℕ → List ℕ → List ℕ
 put buffer at text = take at buffer ++ (text ++ drop (at + length text) buffer)
 
-abbrev pub piece-text : Piece → List ℕ
-piece-text (Fixed bytes) = bytes.now
-piece-text (Number n) = decimal n
+abbrev pub piece_text : Piece → List ℕ
+piece_text (Fixed bytes) = bytes.now
+piece_text (Number n) = decimal n
 
-abbrev pub pieces-text : List Piece → List ℕ
-pieces-text pieces = flat_map piece-text pieces
+abbrev pub pieces_text : List Piece → List ℕ
+pieces_text pieces = flat_map piece_text pieces

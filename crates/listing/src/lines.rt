@@ -1,7 +1,7 @@
 // The lines of a listing. Each function writes from a place of the buffer on, and says where the text ends.
 ghost use Rattle.std.specs.Prelude.{◌≡◌, ◌+◌, ◌*◌, ◌≤◌, length};
 ghost use Rattle.listing.specs.Put.{put};
-ghost use Rattle.listing.specs.Texts.{accepted-line, part-line, task-line, part-lines, task-lines, layer-name, refusal-text};
+ghost use Rattle.listing.specs.Texts.{accepted_line, part_line, task_line, part_lines, task_lines, layer_name, refusal_text};
 
 use crate::marks::{Marks, TaskMark};
 use crate::pieces::{Piece, put_all};
@@ -9,9 +9,9 @@ use refusal::{Layer, Refusal};
 
 // That a plan is accepted, and how many tasks it has.
 pub(crate) fn put_accepted(buffer: &mut [u8], at: usize, tasks: u32) -> usize
-    requires { at + length (accepted-line tasks) ≤ length buffer.old }
-    ensures text { buffer.new ≡ put buffer.old at (accepted-line tasks) }
-    ensures end { result ≡ at + length (accepted-line tasks) }
+    requires { at + length (accepted_line tasks) ≤ length buffer.old }
+    ensures text { buffer.new ≡ put buffer.old at (accepted_line tasks) }
+    ensures end { result ≡ at + length (accepted_line tasks) }
 {
     let count = u64::from(tasks);
     put_all(
@@ -27,9 +27,9 @@ pub(crate) fn put_accepted(buffer: &mut [u8], at: usize, tasks: u32) -> usize
 
 // The line of a part.
 fn put_part(buffer: &mut [u8], at: usize, number: u32, load: u64) -> usize
-    requires { at + length (part-line number load) ≤ length buffer.old }
-    ensures text { buffer.new ≡ put buffer.old at (part-line number load) }
-    ensures end { result ≡ at + length (part-line number load) }
+    requires { at + length (part_line number load) ≤ length buffer.old }
+    ensures text { buffer.new ≡ put buffer.old at (part_line number load) }
+    ensures end { result ≡ at + length (part_line number load) }
 {
     let number = u64::from(number);
     put_all(
@@ -47,9 +47,9 @@ fn put_part(buffer: &mut [u8], at: usize, number: u32, load: u64) -> usize
 
 // The line of a task.
 fn put_task(buffer: &mut [u8], at: usize, number: u32, mark: TaskMark) -> usize
-    requires { at + length (task-line number mark) ≤ length buffer.old }
-    ensures text { buffer.new ≡ put buffer.old at (task-line number mark) }
-    ensures end { result ≡ at + length (task-line number mark) }
+    requires { at + length (task_line number mark) ≤ length buffer.old }
+    ensures text { buffer.new ≡ put buffer.old at (task_line number mark) }
+    ensures end { result ≡ at + length (task_line number mark) }
 {
     let number = u64::from(number);
     let bound = u64::from(mark.bound);
@@ -73,7 +73,7 @@ fn put_task(buffer: &mut [u8], at: usize, number: u32, mark: TaskMark) -> usize
 
 // The name of a layer.
 fn layer_name(layer: Layer) -> &'static [u8]
-    ensures { result.now ≡ layer-name layer }
+    ensures { result.now ≡ layer_name layer }
 {
     match layer {
         Layer::Words => b"words",
@@ -87,9 +87,9 @@ fn layer_name(layer: Layer) -> &'static [u8]
 
 // The line of a refusal.
 pub(crate) fn put_refusal(buffer: &mut [u8], at: usize, refusal: Refusal) -> usize
-    requires { at + length (refusal-text refusal) ≤ length buffer.old }
-    ensures text { buffer.new ≡ put buffer.old at (refusal-text refusal) }
-    ensures end { result ≡ at + length (refusal-text refusal) }
+    requires { at + length (refusal_text refusal) ≤ length buffer.old }
+    ensures text { buffer.new ≡ put buffer.old at (refusal_text refusal) }
+    ensures end { result ≡ at + length (refusal_text refusal) }
 {
     let number = u64::from(refusal.number());
     let layer = layer_name(refusal.layer());
@@ -112,8 +112,8 @@ pub(crate) fn put_refusal(buffer: &mut [u8], at: usize, refusal: Refusal) -> usi
 // The lines of all parts, in their order.
 pub(crate) fn put_parts(buffer: &mut [u8], at: usize, marks: &Marks) -> usize
     requires { at + 42 * 9 ≤ length buffer.old }
-    ensures text { buffer.new ≡ put buffer.old at (part-lines marks.now.part_count marks.now.parts) }
-    ensures end { result ≡ at + length (part-lines marks.now.part_count marks.now.parts) }
+    ensures text { buffer.new ≡ put buffer.old at (part_lines marks.now.part_count marks.now.parts) }
+    ensures end { result ≡ at + length (part_lines marks.now.part_count marks.now.parts) }
     ensures short { result ≤ at + 42 * 9 }
 {
     let mut end = at;
@@ -126,8 +126,8 @@ pub(crate) fn put_parts(buffer: &mut [u8], at: usize, marks: &Marks) -> usize
 // The lines of all tasks, in their order.
 pub(crate) fn put_tasks(buffer: &mut [u8], at: usize, marks: &Marks) -> usize
     requires { at + 79 * 16 ≤ length buffer.old }
-    ensures text { buffer.new ≡ put buffer.old at (task-lines marks.now.task_count marks.now.tasks) }
-    ensures end { result ≡ at + length (task-lines marks.now.task_count marks.now.tasks) }
+    ensures text { buffer.new ≡ put buffer.old at (task_lines marks.now.task_count marks.now.tasks) }
+    ensures end { result ≡ at + length (task_lines marks.now.task_count marks.now.tasks) }
     ensures short { result ≤ at + 79 * 16 }
 {
     let mut end = at;

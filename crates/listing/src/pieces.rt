@@ -1,6 +1,6 @@
 // Text in pieces, written into a buffer from a place on.
 ghost use Rattle.std.specs.Prelude.{◌≡◌, ◌+◌, ◌≤◌, length, drop, decimal};
-ghost use Rattle.listing.specs.Put.{put, piece-text, pieces-text};
+ghost use Rattle.listing.specs.Put.{put, piece_text, pieces_text};
 
 // A piece of a text: bytes as they are, or a number in decimal.
 #[derive(Clone, Copy)]
@@ -50,9 +50,9 @@ fn put_number(buffer: &mut [u8], at: usize, n: u64) -> usize
 }
 
 fn put_piece(buffer: &mut [u8], at: usize, piece: Piece) -> usize
-    requires { at + length (piece-text piece) ≤ length buffer.old }
-    ensures text { buffer.new ≡ put buffer.old at (piece-text piece.entry) }
-    ensures end { result ≡ at + length (piece-text piece.entry) }
+    requires { at + length (piece_text piece) ≤ length buffer.old }
+    ensures text { buffer.new ≡ put buffer.old at (piece_text piece.entry) }
+    ensures end { result ≡ at + length (piece_text piece.entry) }
 {
     match piece {
         Piece::Fixed(bytes) => put_bytes(buffer, at, bytes),
@@ -62,9 +62,9 @@ fn put_piece(buffer: &mut [u8], at: usize, piece: Piece) -> usize
 
 // Writes pieces, one after another.
 pub(crate) fn put_all(buffer: &mut [u8], at: usize, pieces: &[Piece]) -> usize
-    requires { at + length (pieces-text pieces.now) ≤ length buffer.old }
-    ensures text { buffer.new ≡ put buffer.old at (pieces-text pieces.now) }
-    ensures end { result ≡ at + length (pieces-text pieces.now) }
+    requires { at + length (pieces_text pieces.now) ≤ length buffer.old }
+    ensures text { buffer.new ≡ put buffer.old at (pieces_text pieces.now) }
+    ensures end { result ≡ at + length (pieces_text pieces.now) }
 {
     let mut end = at;
     for piece in pieces {

@@ -2,11 +2,11 @@
 use Rattle.std.specs.Prelude.{ℕ, ◌+◌, ◌-◌, ◌*◌, ◌/◌, ◌≤◌}
 
 -- a divided by b and rounded up; 0 if b is 0
-abbrev pub rounded-up : ℕ → ℕ → ℕ
-rounded-up a b = (a + (b - 1)) / b
+abbrev pub rounded_up : ℕ → ℕ → ℕ
+rounded_up a b = (a + (b - 1)) / b
 
 abbrev pub load_of : ℕ → ℕ → ℕ
-load_of units ticks = rounded-up (10000 * units) ticks
+load_of units ticks = rounded_up (10000 * units) ticks
 
 -- n is the smallest number that, b times, is at least a
 pub record RoundedUp (a b n : ℕ) : Type 0 where

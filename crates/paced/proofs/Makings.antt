@@ -4,14 +4,14 @@ use Rattle.std.proofs.lemmas.List.{at_drop_more, drop_all, take_more, set_at, le
 use Rattle.std.proofs.lemmas.Bool.{leb-true, ltb-true, lt-ltb, and_parts, cond-true}
 use Rattle.refusal.specs.declared.Fault.TheVariants.{TooMany, OutOfRange, Misfit}
 use Rattle.paced.specs.Pace.{Fit}
-use Rattle.paced.specs.Makes.{in_range, allInRange, given-right, fault-of, fresh, adding}
+use Rattle.paced.specs.Makes.{in_range, all_in_range, given_right, fault_of, fresh, adding}
 
 -- the costs are looked at one after another
-pub range-first : (xs : List ℕ) (i : ℕ) → i < length xs → allInRange (drop i xs) ≡ (in_range (get_or xs i 0) && allInRange (drop (i + 1) xs))
-range-first xs i h = at_drop_more allInRange xs i 0 h
+pub range-first : (xs : List ℕ) (i : ℕ) → i < length xs → all_in_range (drop i xs) ≡ (in_range (get_or xs i 0) && all_in_range (drop (i + 1) xs))
+range-first xs i h = at_drop_more all_in_range xs i 0 h
 
-pub range_last : (xs : List ℕ) (i : ℕ) → length xs ≤ i → allInRange (drop i xs) ≡ true
-range_last xs i h = ap allInRange (drop_all i xs h)
+pub range_last : (xs : List ℕ) (i : ℕ) → length xs ≤ i → all_in_range (drop i xs) ≡ true
+range_last xs i h = ap all_in_range (drop_all i xs h)
 
 -- a cost is put in the place of the first 0 behind those that are there
 pub padded-more : (xs : List ℕ) (i : ℕ) → i < length xs → i < 8 → set (take i xs ++ replicate (8 - i) 0) i (get_or xs i 0) ≡ take (i + 1) xs ++ replicate (8 - (i + 1)) 0
@@ -25,11 +25,11 @@ padded-more xs i h small =
 
 -- what no fault is found with makes a part that is fit
 
-range_at : (xs : List ℕ) → allInRange xs ≡ true → (i : ℕ) → get_or xs i 0 ≤ 1000000
+range_at : (xs : List ℕ) → all_in_range xs ≡ true → (i : ℕ) → get_or xs i 0 ≤ 1000000
 range_at [] e zero = omega arith
 range_at [] e (suc i) = omega arith
-range_at (x ∷ xs) e zero = leb-true x 1000000 (and_parts (leb 1 x) (leb x 1000000) (and_parts (in_range x) (allInRange xs) e).0).1
-range_at (x ∷ xs) e (suc i) = range_at xs (and_parts (in_range x) (allInRange xs) e).1 i
+range_at (x ∷ xs) e zero = leb-true x 1000000 (and_parts (leb 1 x) (leb x 1000000) (and_parts (in_range x) (all_in_range xs) e).0).1
+range_at (x ∷ xs) e (suc i) = range_at xs (and_parts (in_range x) (all_in_range xs) e).1 i
 
 padded-small : (xs : List ℕ) (n : ℕ) → ((i : ℕ) → get_or xs i 0 ≤ 1000000) → (i : ℕ) → get_or (xs ++ replicate n 0) i 0 ≤ 1000000
 padded-small [] zero h i = h i
@@ -43,7 +43,7 @@ pub passed : {F : Type 0} (b : Bool) (x : Option F) (f : F) → cond b x (Some f
 passed true x f e = (refl, e)
 passed false x f e = let z : ◌≡◌ {A = ℕ} 0 1 = cc in absurd (omega arith)
 
-pub fresh-fit : (t j : ℕ) (xs : List ℕ) → fault-of t j xs ≡ None → Fit (fresh t j xs)
+pub fresh-fit : (t j : ℕ) (xs : List ℕ) → fault_of t j xs ≡ None → Fit (fresh t j xs)
 fresh-fit t j xs e =
     record {
       paces = (leb-true 1 t t-in.0, leb-true t 1000000 t-in.1, ltb-true j t below);
@@ -51,13 +51,13 @@ fresh-fit t j xs e =
       costs = padded-small xs (8 - length xs) (range_at xs some.1);
     }
   where
-    after-length : (leb (length xs) 8 ≡ true) × (cond (given-right t j xs) (cond (ltb j t) None (Some Misfit)) (Some OutOfRange) ≡ None)
-    after-length = passed (leb (length xs) 8) (cond (given-right t j xs) (cond (ltb j t) None (Some Misfit)) (Some OutOfRange)) TooMany e
+    after-length : (leb (length xs) 8 ≡ true) × (cond (given_right t j xs) (cond (ltb j t) None (Some Misfit)) (Some OutOfRange) ≡ None)
+    after-length = passed (leb (length xs) 8) (cond (given_right t j xs) (cond (ltb j t) None (Some Misfit)) (Some OutOfRange)) TooMany e
 
-    after-numbers : (given-right t j xs ≡ true) × (cond (ltb j t) None (Some Misfit) ≡ None)
-    after-numbers = passed (given-right t j xs) (cond (ltb j t) None (Some Misfit)) OutOfRange after-length.1
+    after-numbers : (given_right t j xs ≡ true) × (cond (ltb j t) None (Some Misfit) ≡ None)
+    after-numbers = passed (given_right t j xs) (cond (ltb j t) None (Some Misfit)) OutOfRange after-length.1
 
-    right : given-right t j xs ≡ true
+    right : given_right t j xs ≡ true
     right = after-numbers.0
 
     below : ltb j t ≡ true
@@ -67,14 +67,14 @@ fresh-fit t j xs e =
     few = leb-true (length xs) 8 after-length.0
 
     t-in : (leb 1 t ≡ true) × (leb t 1000000 ≡ true)
-    t-in = and_parts (leb 1 t) (leb t 1000000) (and_parts (in_range t) (leb j 1000000 && (leb 1 (length xs) && allInRange xs)) right).0
+    t-in = and_parts (leb 1 t) (leb t 1000000) (and_parts (in_range t) (leb j 1000000 && (leb 1 (length xs) && all_in_range xs)) right).0
 
-    some : (leb 1 (length xs) ≡ true) × (allInRange xs ≡ true)
-    some = and_parts (leb 1 (length xs)) (allInRange xs) (and_parts (leb j 1000000) (leb 1 (length xs) && allInRange xs) (and_parts (in_range t) (leb j 1000000 && (leb 1 (length xs) && allInRange xs)) right).1).1
+    some : (leb 1 (length xs) ≡ true) × (all_in_range xs ≡ true)
+    some = and_parts (leb 1 (length xs)) (all_in_range xs) (and_parts (leb j 1000000) (leb 1 (length xs) && all_in_range xs) (and_parts (in_range t) (leb j 1000000 && (leb 1 (length xs) && all_in_range xs)) right).1).1
 
     held : length (xs ++ replicate (8 - length xs) 0) ≡ 8
     held = length-append xs (replicate (8 - length xs) 0) ∙ ap (λ n. length xs + n) (length-replicate (8 - length xs) 0) ∙ omega (arith, few)
 
 -- where a small table has room, a larger one finds the same fault
 pub adding-same : (most more n t j : ℕ) (xs : List ℕ) → n < most → n < more → adding most n t j xs ≡ adding more n t j xs
-adding-same most more n t j xs h i = cond-true (ltb n most) (fault-of t j xs) (Some TooMany) (lt-ltb n most h) ∙ sym (cond-true (ltb n more) (fault-of t j xs) (Some TooMany) (lt-ltb n more i))
+adding-same most more n t j xs h i = cond-true (ltb n most) (fault_of t j xs) (Some TooMany) (lt-ltb n most h) ∙ sym (cond-true (ltb n more) (fault_of t j xs) (Some TooMany) (lt-ltb n more i))

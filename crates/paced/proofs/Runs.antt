@@ -4,7 +4,7 @@ use Rattle.std.proofs.lemmas.List.{length-take-le, get_or-take}
 use Rattle.std.proofs.lemmas.Bool.{lt-ltb}
 use Rattle.cycles.specs.Round.{sum, top, met, onward}
 use Rattle.cycles.proofs.Rounds.{top-on, met-slides, met-least, onward-at, onward-within, sum_same, met-same, top-same}
-use Rattle.paced.specs.Runs.{at, largest, largest-from}
+use Rattle.paced.specs.Runs.{at, largest, largest_from}
 
 -- place i of a cycle of n, where a loop over the places stands; after the last it is the first again
 abbrev pub turn : ℕ → ℕ → ℕ
@@ -31,7 +31,7 @@ module _ (xs : List ℕ) (m i w b : ℕ) (within : i < length xs) (short : m < l
   pub window-slides : (e : ℕ) → e ≡ cond (ltb (i + m) (length xs)) (i + m) (i + m - length xs) → w + at xs e ≡ at xs i + met (length xs) (at xs) (turn (length xs) (i + 1)) m
   window-slides e p = omega (arith, w-here, ap (at xs) (end_is e p), met-slides (length xs) (at xs) i m)
 
-  pub best-grows : b ≡ largest-from (length xs) xs m i → max b w ≡ largest-from (length xs) xs m (i + 1)
+  pub best-grows : b ≡ largest_from (length xs) xs m i → max b w ≡ largest_from (length xs) xs m (i + 1)
   best-grows h = omega (arith, h, w-here, top-on (λ p. met (length xs) (at xs) p m) i)
 
 -- the first n of some costs, as a part `costs[0..n]` has them

@@ -6,5 +6,5 @@ use Rattle.paced.specs.Runs.{at}
 use Rattle.paced.specs.declared.row.Row.{Row}
 
 -- all its costs come once in as many periods as there are costs
-abbrev pub row-load : Row → ℕ
-row-load r = load_of (sum (at r.costs) r.count) (r.period * r.count)
+abbrev pub row_load : Row → ℕ
+row_load r = load_of (sum (at r.costs) r.count) (r.period * r.count)

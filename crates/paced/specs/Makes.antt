@@ -9,17 +9,17 @@ use Rattle.paced.specs.declared.row.Row.{Row}
 abbrev pub in_range : ℕ → Bool
 in_range x = nat_le 1 x && nat_le x 1000000
 
-abbrev pub allInRange : List ℕ → Bool
-allInRange [] = true
-allInRange (x ∷ xs) = in_range x && allInRange xs
+abbrev pub all_in_range : List ℕ → Bool
+all_in_range [] = true
+all_in_range (x ∷ xs) = in_range x && all_in_range xs
 
 -- period, jitter and costs are numbers that may be given
-abbrev pub given-right : ℕ → ℕ → List ℕ → Bool
-given-right t j costs = in_range t && (nat_le j 1000000 && (nat_le 1 (length costs) && allInRange costs))
+abbrev pub given_right : ℕ → ℕ → List ℕ → Bool
+given_right t j costs = in_range t && (nat_le j 1000000 && (nat_le 1 (length costs) && all_in_range costs))
 
 -- what is wrong with them, the fault with the smallest number first
-abbrev pub fault-of : ℕ → ℕ → List ℕ → Option Fault
-fault-of t j costs = cond (nat_le (length costs) 8) (cond (given-right t j costs) (cond (nat_lt j t) None (Some Misfit)) (Some OutOfRange)) (Some TooMany)
+abbrev pub fault_of : ℕ → ℕ → List ℕ → Option Fault
+fault_of t j costs = cond (nat_le (length costs) 8) (cond (given_right t j costs) (cond (nat_lt j t) None (Some Misfit)) (Some OutOfRange)) (Some TooMany)
 
 -- the part made of them: level and place are 0
 abbrev pub fresh : ℕ → ℕ → List ℕ → Row
@@ -27,7 +27,7 @@ fresh t j costs = record { period = t; jitter = j; count = length costs; costs =
 
 -- what is wrong with one more part in a table of n that has room for `most`
 abbrev pub adding : ℕ → ℕ → ℕ → ℕ → List ℕ → Option Fault
-adding most n t j costs = cond (nat_lt n most) (fault-of t j costs) (Some TooMany)
+adding most n t j costs = cond (nat_lt n most) (fault_of t j costs) (Some TooMany)
 
 -- a place of a table that has no part
 abbrev pub unused : Row

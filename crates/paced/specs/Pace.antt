@@ -10,12 +10,12 @@ abbrev pub run : Row → ℕ → ℕ → ℕ
 run r i m = met r.count (at r.costs) i m
 
 -- the largest sum of m successive costs from any place in the cycle
-abbrev pub largest-run : Row → ℕ → ℕ
-largest-run r m = largest r.count r.costs m
+abbrev pub largest_run : Row → ℕ → ℕ
+largest_run r m = largest r.count r.costs m
 
 -- the largest cost
-abbrev pub largest-cost : Row → ℕ
-largest-cost r = top (at r.costs) r.count
+abbrev pub largest_cost : Row → ℕ
+largest_cost r = top (at r.costs) r.count
 
 -- how many costs can come in l ticks if the level is v, and v is at most J + l - 1: one every T ticks, all of them up
 -- to J ticks early
@@ -29,7 +29,7 @@ coming r l = (r.jitter + (l - 1)) / r.period + 1
 
 -- demand over l ticks, from the worst level and the worst place
 abbrev pub demand : Row → ℕ → ℕ
-demand r l = largest-run r (arrivals r 0 l)
+demand r l = largest_run r (arrivals r 0 l)
 
 -- allowance over l ticks, from the present level and place
 abbrev pub allowance : Row → ℕ → ℕ

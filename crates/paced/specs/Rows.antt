@@ -1,4 +1,5 @@
 -- A row of paced work owes what a source and a gate owe.
+-- Lemmas only, which laws of traits cite; a reader of the definitions can pass over them.
 use Rattle.std.specs.Prelude.{◌≡◌, ℕ, zero, suc, ◌+◌, ◌-◌, ◌*◌, ◌/◌, ◌%◌, ◌<◌, ◌≤◌, true, cond, leb, ◌≢◌, nat_le, refl}
 use Rattle.std.proofs.Common.{sym, ap, ◌∙◌, subst, inl, inr, arith, add-one, div-le_self, le-div_iff_mul-le, div-mul-le_self}
 use Rattle.std.proofs.Math.Nat.{div-eq_of_lt, div-eq-sub-div}

@@ -1,9 +1,9 @@
 // The rack: the interrupts of a panel.
 ghost use Rattle.std.specs.Prelude.{◌≡◌, ℕ, ◌+◌, ◌-◌, ◌<◌, ◌≤◌, true, false, ◌&&◌, replicate, if◌then◌else◌, Some, None, MatchResult, slice_set};
-ghost use Rattle.source.specs.Facts.{isPart, offerable, Sound, Kept, Taken, Ticked, Driven};
-ghost use Rattle.paced.specs.Loads.{row-load};
+ghost use Rattle.source.specs.Facts.{is_part, offerable, Sound, Kept, Taken, Ticked, Driven};
+ghost use Rattle.paced.specs.Loads.{row_load};
 ghost use Rattle.paced.specs.Makes.{adding, fresh, unused};
-ghost use Rattle.paced.specs.Tables.{row_at, demandsOf, allowancesOf, Gives, Passes};
+ghost use Rattle.paced.specs.Tables.{row_at, demands_of, allowances_of, Gives, Passes};
 ghost use Rattle.std.proofs.Common.{arith};
 ghost use Rattle.paced.specs.Together.{table-sound, list-taken, list-ticked};
 
@@ -50,7 +50,7 @@ impl Rack {
 
     // The share of the processor's time that a part asks for, in ten-thousandths, or None if there is no such part.
     pub fn load(&self, part: u32) -> Option<u64>
-        ensures { result ≡ (if isPart self.now.table.count part then Some (row-load (row_at self.now.table.rows (part - 1))) else None) }
+        ensures { result ≡ (if is_part self.now.table.count part then Some (row_load (row_at self.now.table.rows (part - 1))) else None) }
     {
         self.table.load(part)
     }
@@ -59,9 +59,9 @@ impl Rack {
 impl Source for Rack {
     ghost parts = { λ s. s.table.count };
 
-    ghost demanded = { λ s. demandsOf s.table.count (row_at s.table.rows) };
+    ghost demanded = { λ s. demands_of s.table.count (row_at s.table.rows) };
 
-    ghost allowed = { λ s. allowancesOf s.table.count (row_at s.table.rows) };
+    ghost allowed = { λ s. allowances_of s.table.count (row_at s.table.rows) };
 
     ghost sound = { λ s.
         let t = s.table in

@@ -1,9 +1,9 @@
 // One row of paced work, and what a table of such rows asks of each.
 ghost use Rattle.std.specs.Prelude.{◌≡◌, ℕ, ◌+◌, ◌-◌, ◌*◌, ◌/◌, ◌%◌, ◌^◌, ◌<◌, ◌≤◌, ◌++◌, length, replicate, IfOk, if◌then◌else◌, Some, None, MatchResult, nat_le, nat_lt};
 ghost use Rattle.cycles.specs.Round.{sum, top, met};
-ghost use Rattle.paced.specs.Makes.{in_range, allInRange, given-right, fault-of, fresh};
-ghost use Rattle.paced.specs.Loads.{row-load};
-ghost use Rattle.paced.specs.Pace.{largest-cost, coming, demand, allowance, given, later, Fit};
+ghost use Rattle.paced.specs.Makes.{in_range, all_in_range, given_right, fault_of, fresh};
+ghost use Rattle.paced.specs.Loads.{row_load};
+ghost use Rattle.paced.specs.Pace.{largest_cost, coming, demand, allowance, given, later, Fit};
 ghost use Rattle.paced.specs.Runs.{at, largest as largest-sum};
 
 use cycles::step;
@@ -34,7 +34,7 @@ pub fn in_range(x: u32) -> bool
 
 // Whether each cost may be given.
 fn all_in_range(costs: &[u32]) -> bool
-    ensures { result ≡ allInRange costs.now }
+    ensures { result ≡ all_in_range costs.now }
 {
     for cost in costs {
         if !in_range(*cost) {
@@ -46,14 +46,14 @@ fn all_in_range(costs: &[u32]) -> bool
 
 // Whether period, jitter and costs are numbers that may be given.
 fn given_right(period: u32, jitter: u32, costs: &[u32]) -> bool
-    ensures { result ≡ given-right period jitter costs.now }
+    ensures { result ≡ given_right period jitter costs.now }
 {
     in_range(period) && jitter <= LARGEST && 1 <= costs.len() && all_in_range(costs)
 }
 
 // What is wrong with a paced part of these numbers, if anything is.
 pub fn pace_fault(period: u32, jitter: u32, costs: &[u32]) -> Option<Fault>
-    ensures { result ≡ fault-of period jitter costs.now }
+    ensures { result ≡ fault_of period jitter costs.now }
 {
     if costs.len() > 8 {
         return Some(Fault::TooMany);
@@ -148,7 +148,7 @@ impl Row {
     // A paced part with level and place 0, or what is wrong with the numbers.
     pub fn new(period: u32, jitter: u32, costs: &[u32]) -> Result<Row, Fault>
         ensures fit { IfOk result (λ row. Fit row) }
-        ensures made { MatchResult result (λ row. (fault-of period jitter costs.now ≡ None) × (row ≡ fresh period jitter costs.now)) (λ fault. fault-of period jitter costs.now ≡ Some fault) }
+        ensures made { MatchResult result (λ row. (fault_of period jitter costs.now ≡ None) × (row ≡ fresh period jitter costs.now)) (λ fault. fault_of period jitter costs.now ≡ Some fault) }
     {
         if let Some(fault) = pace_fault(period, jitter, costs) {
             return Err(fault);
@@ -159,7 +159,7 @@ impl Row {
     // The largest cost.
     pub(crate) fn largest_cost(&self) -> u32
         requires { Fit self.now }
-        ensures { result ≡ largest-cost self.now }
+        ensures { result ≡ largest_cost self.now }
     {
         largest(&self.costs[0..self.count as usize])
     }
@@ -167,7 +167,7 @@ impl Row {
     // The share of the processor's time that the row asks for, in ten-thousandths.
     pub(crate) fn load(&self) -> u64
         requires { Fit self.now }
-        ensures { result ≡ row-load self.now }
+        ensures { result ≡ row_load self.now }
     {
         load(
             whole(&self.costs[0..self.count as usize]),

@@ -1,9 +1,9 @@
 // One paced part by itself.
 ghost use Rattle.std.specs.Prelude.{◌≡◌, ℕ, true, false, cond, ◌&&◌, Some, None, MatchResult};
-ghost use Rattle.source.specs.Facts.{isPart, offerable, Sound, Kept, Taken, Ticked, Driven};
-ghost use Rattle.paced.specs.Makes.{fault-of, fresh};
+ghost use Rattle.source.specs.Facts.{is_part, offerable, Sound, Kept, Taken, Ticked, Driven};
+ghost use Rattle.paced.specs.Makes.{fault_of, fresh};
 ghost use Rattle.paced.specs.Pace.{Paces, Places, Costs, later};
-ghost use Rattle.paced.specs.Tables.{demandsOf, allowancesOf, only, GivesOne};
+ghost use Rattle.paced.specs.Tables.{demands_of, allowances_of, only, GivesOne};
 ghost use Rattle.paced.specs.Together.{single-sound, single-taken, single-ticked};
 
 use crate::row::Row;
@@ -23,7 +23,7 @@ impl Paced {
     // The part with these numbers, with level and place 0, or a refusal: more than 8 costs; a period or cost of 0, no
     // cost or a number above 1,000,000; a jitter that is not below the period.
     pub fn new(period: u32, jitter: u32, costs: &[u32]) -> Result<Paced, Refusal>
-        ensures { MatchResult result (λ p. (fault-of period jitter costs.now ≡ None) × (p.row ≡ fresh period jitter costs.now)) (λ e. (fault-of period jitter costs.now ≡ Some e.fault) × (e.line ≡ 0) × (e.task ≡ 0)) }
+        ensures { MatchResult result (λ p. (fault_of period jitter costs.now ≡ None) × (p.row ≡ fresh period jitter costs.now)) (λ e. (fault_of period jitter costs.now ≡ Some e.fault) × (e.line ≡ 0) × (e.task ≡ 0)) }
     {
         match Row::new(period, jitter, costs) {
             Ok(row) => Ok(Paced { row }),
@@ -35,9 +35,9 @@ impl Paced {
 impl Source for Paced {
     ghost parts = { λ _. 1 };
 
-    ghost demanded = { λ s. demandsOf 1 (only s.row) };
+    ghost demanded = { λ s. demands_of 1 (only s.row) };
 
-    ghost allowed = { λ s. allowancesOf 1 (only s.row) };
+    ghost allowed = { λ s. allowances_of 1 (only s.row) };
 
     ghost sound = { λ s. single-sound s.row (record { paces = s.paces; places = s.places; costs = s.costs }) };
 

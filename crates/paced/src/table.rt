@@ -1,10 +1,10 @@
 // A table of paced parts: plain rows, of which the table says what they keep to.
 ghost use Rattle.std.specs.Prelude.{◌≡◌, ℕ, ◌+◌, ◌-◌, ◌<◌, ◌≤◌, true, false, ◌&&◌, length, replicate, if◌then◌else◌, Some, None, MatchResult, slice_set};
-ghost use Rattle.source.specs.Facts.{isPart, offerable, Sound, Kept, Taken, Ticked, Driven};
-ghost use Rattle.paced.specs.Loads.{row-load};
+ghost use Rattle.source.specs.Facts.{is_part, offerable, Sound, Kept, Taken, Ticked, Driven};
+ghost use Rattle.paced.specs.Loads.{row_load};
 ghost use Rattle.paced.specs.Makes.{adding, fresh, unused};
-ghost use Rattle.paced.specs.Pace.{Paces, Places, Costs, largest-cost};
-ghost use Rattle.paced.specs.Tables.{row_at, demandsOf, allowancesOf, Gives, Passes};
+ghost use Rattle.paced.specs.Pace.{Paces, Places, Costs, largest_cost};
+ghost use Rattle.paced.specs.Tables.{row_at, demands_of, allowances_of, Gives, Passes};
 ghost use Rattle.std.proofs.Common.{arith};
 ghost use Rattle.paced.specs.Together.{table-sound, list-taken, list-ticked};
 
@@ -60,7 +60,7 @@ impl Table {
 
     // The largest cost of a part, or None if there is no such part.
     pub fn largest_cost(&self, part: u32) -> Option<u32>
-        ensures { result ≡ (if isPart self.now.count part then Some (largest-cost (row_at self.now.rows (part - 1))) else None) }
+        ensures { result ≡ (if is_part self.now.count part then Some (largest_cost (row_at self.now.rows (part - 1))) else None) }
     {
         if part < 1 || part > self.count {
             return None;
@@ -70,7 +70,7 @@ impl Table {
 
     // The share of the processor's time that a part asks for, in ten-thousandths, or None if there is no such part.
     pub fn load(&self, part: u32) -> Option<u64>
-        ensures { result ≡ (if isPart self.now.count part then Some (row-load (row_at self.now.rows (part - 1))) else None) }
+        ensures { result ≡ (if is_part self.now.count part then Some (row_load (row_at self.now.rows (part - 1))) else None) }
     {
         if part < 1 || part > self.count {
             return None;
@@ -98,9 +98,9 @@ impl Table {
 impl Source for Table {
     ghost parts = { λ s. s.count };
 
-    ghost demanded = { λ s. demandsOf s.count (row_at s.rows) };
+    ghost demanded = { λ s. demands_of s.count (row_at s.rows) };
 
-    ghost allowed = { λ s. allowancesOf s.count (row_at s.rows) };
+    ghost allowed = { λ s. allowances_of s.count (row_at s.rows) };
 
     ghost sound = { λ s. table-sound s.count (row_at s.rows) (omega arith) (λ i h. record { paces = s.paces i h; places = s.places i h; costs = s.costs i h }) };
 

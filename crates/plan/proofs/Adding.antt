@@ -2,12 +2,12 @@
 use Rattle.std.proofs.Common.{◌≡◌, ℕ, ◌+◌, ◌<◌, ◌≤◌, cond, ◌&&◌, ltb, leb, ◌⊎◌, List, length, set, Some, None, ap, ◌∙◌, inl, inr, arith, get_or-set_other, get_or-set_same}
 use Rattle.std.proofs.lemmas.Bool.{cases_eq, leb-true, ltb-true, and_parts}
 use Rattle.refusal.specs.declared.Fault.TheVariants.{TooMany, OutOfRange, Misfit, HoldAboveBlocking}
-use Rattle.paced.specs.Makes.{in_range, fault-of, adding}
+use Rattle.paced.specs.Makes.{in_range, fault_of, adding}
 use Rattle.paced.specs.Pace.{blank}
 use Rattle.paced.specs.Tables.{row_at}
 use Rattle.paced.specs.declared.row.Row.{Row}
 use Rattle.paced.proofs.Makings.{passed}
-use Rattle.plan.specs.Limits.{unlimited, limitAt, bearable, limit-fault}
+use Rattle.plan.specs.Limits.{unlimited, limit_at, bearable, limit_fault}
 use Rattle.plan.specs.declared.tasks.Limit.{Limit}
 use Rattle.plan.proofs.Bearing.{bears-each}
 
@@ -15,9 +15,9 @@ use Rattle.plan.proofs.Bearing.{bears-each}
 pub record Right (limits : List Limit) (n t j : ℕ) (l : Limit) : Type 0 where
   pub blocking : l.blocking ≤ 1000000
   pub deadline : l.deadline + j ≤ t
-  pub hold : (i : ℕ) → i < n → l.hold ≤ (limitAt limits i).blocking
+  pub hold : (i : ℕ) → i < n → l.hold ≤ (limit_at limits i).blocking
 
-pub right-limits : (limits : List Limit) (n t j : ℕ) (l : Limit) → limit-fault limits n t j l.blocking l.deadline l.hold ≡ None → Right limits n t j l
+pub right-limits : (limits : List Limit) (n t j : ℕ) (l : Limit) → limit_fault limits n t j l.blocking l.deadline l.hold ≡ None → Right limits n t j l
 right-limits limits n t j l e =
     let numbers = passed (in_range l.deadline && (leb l.blocking 1000000 && leb l.hold 1000000)) (cond (leb (l.deadline + j) t) (cond (bearable limits l.hold n) None (Some HoldAboveBlocking)) (Some Misfit)) OutOfRange e in
     let fitting = passed (leb (l.deadline + j) t) (cond (bearable limits l.hold n) None (Some HoldAboveBlocking)) Misfit numbers.1 in
@@ -30,26 +30,26 @@ right-limits limits n t j l e =
 
 module _ (rows rows' : List Row) (limits : List Limit) (n n' : ℕ) (r : Row) (l : Limit) (rows_are : rows' ≡ set rows n r) (count-is : n' ≡ n + 1) (room : n < length rows) (place : n < length limits) where
   -- the new task, or one that was there
-  at-either : (i : ℕ) → i < n' → ((i < n) × (row_at rows' i ≡ row_at rows i) × (limitAt (set limits n l) i ≡ limitAt limits i)) ⊎ ((i ≡ n) × (row_at rows' i ≡ r) × (limitAt (set limits n l) i ≡ l))
+  at-either : (i : ℕ) → i < n' → ((i < n) × (row_at rows' i ≡ row_at rows i) × (limit_at (set limits n l) i ≡ limit_at limits i)) ⊎ ((i ≡ n) × (row_at rows' i ≡ r) × (limit_at (set limits n l) i ≡ l))
   at-either i h =
       elim (cases_eq i n) [
-        | inl e ↦ inr (e, ap (λ k. row_at rows' k) e ∙ ap (λ xs. row_at xs n) rows_are ∙ get_or-set_same rows n r blank room, ap (limitAt (set limits n l)) e ∙ get_or-set_same limits n l unlimited place)
+        | inl e ↦ inr (e, ap (λ k. row_at rows' k) e ∙ ap (λ xs. row_at xs n) rows_are ∙ get_or-set_same rows n r blank room, ap (limit_at (set limits n l)) e ∙ get_or-set_same limits n l unlimited place)
         | inr ne ↦ inl (omega arith, ap (λ xs. row_at xs i) rows_are ∙ get_or-set_other rows n i r blank ne, get_or-set_other limits n i l unlimited ne)
       ]
 
-  pub add-deadlines : ((i : ℕ) → i < n → (limitAt limits i).deadline + (row_at rows i).jitter ≤ (row_at rows i).period) → l.deadline + r.jitter ≤ r.period → (i : ℕ) → i < n' → (limitAt (set limits n l) i).deadline + (row_at rows' i).jitter ≤ (row_at rows' i).period
+  pub add-deadlines : ((i : ℕ) → i < n → (limit_at limits i).deadline + (row_at rows i).jitter ≤ (row_at rows i).period) → l.deadline + r.jitter ≤ r.period → (i : ℕ) → i < n' → (limit_at (set limits n l) i).deadline + (row_at rows' i).jitter ≤ (row_at rows' i).period
   add-deadlines old new i h =
       elim (at-either i h) [
         | inl w ↦ omega (arith, old i w.0, ap (λ x. x.jitter) w.1, ap (λ x. x.period) w.1, ap (λ x. x.deadline) w.2)
         | inr w ↦ omega (arith, new, ap (λ x. x.jitter) w.1, ap (λ x. x.period) w.1, ap (λ x. x.deadline) w.2)
       ]
 
-  pub add-blockings : ((i : ℕ) → i < n → (limitAt limits i).blocking ≤ 1000000) → l.blocking ≤ 1000000 → (i : ℕ) → i < n' → (limitAt (set limits n l) i).blocking ≤ 1000000
+  pub add-blockings : ((i : ℕ) → i < n → (limit_at limits i).blocking ≤ 1000000) → l.blocking ≤ 1000000 → (i : ℕ) → i < n' → (limit_at (set limits n l) i).blocking ≤ 1000000
   add-blockings old new i h = elim (at-either i h) [ inl w ↦ omega (arith, old i w.0, ap (λ x. x.blocking) w.2) | inr w ↦ omega (arith, new, ap (λ x. x.blocking) w.2) ]
 
-  pub add_holds : ((i j : ℕ) → i < j → j < n → (limitAt limits j).hold ≤ (limitAt limits i).blocking) → ((i : ℕ) → i < n → l.hold ≤ (limitAt limits i).blocking) → (i j : ℕ) → i < j → j < n' → (limitAt (set limits n l) j).hold ≤ (limitAt (set limits n l) i).blocking
+  pub add_holds : ((i j : ℕ) → i < j → j < n → (limit_at limits j).hold ≤ (limit_at limits i).blocking) → ((i : ℕ) → i < n → l.hold ≤ (limit_at limits i).blocking) → (i j : ℕ) → i < j → j < n' → (limit_at (set limits n l) j).hold ≤ (limit_at (set limits n l) i).blocking
   add_holds old new i j less h =
-      let above : limitAt (set limits n l) i ≡ limitAt limits i = get_or-set_other limits n i l unlimited (λ e. omega arith) in
+      let above : limit_at (set limits n l) i ≡ limit_at limits i = get_or-set_other limits n i l unlimited (λ e. omega arith) in
       elim (at-either j h) [
         | inl w ↦ omega (arith, old i j less w.0, ap (λ x. x.hold) w.2, ap (λ x. x.blocking) above)
         | inr w ↦ omega (arith, new i (omega (arith, w.0)), ap (λ x. x.hold) w.2, ap (λ x. x.blocking) above)
@@ -57,4 +57,4 @@ module _ (rows rows' : List Row) (limits : List Limit) (n n' : ℕ) (r : Row) (l
 
 -- where a part was added there was room
 pub had-room : (n t j : ℕ) (costs : List ℕ) → adding 16 n t j costs ≡ None → n < 16
-had-room n t j costs e = ltb-true n 16 (passed (ltb n 16) (fault-of t j costs) TooMany e).0
+had-room n t j costs e = ltb-true n 16 (passed (ltb n 16) (fault_of t j costs) TooMany e).0

@@ -2,7 +2,7 @@
 use Rattle.std.proofs.Common.{◌≡◌, ℕ, ◌+◌, ◌-◌, ◌<◌, ◌≤◌, List, get_or, refl, ap, inl, inr, arith}
 use Rattle.std.proofs.lemmas.Bool.{cases_lt, cases_eq}
 use Rattle.paced.specs.declared.row.Row.{Row}
-use Rattle.plan.specs.Judged.{Bounded, Unbounded, Judged, Only-judged}
+use Rattle.plan.specs.Judged.{Bounded, Unbounded, Judged, OnlyJudged}
 use Rattle.plan.specs.Needs.{Smallest}
 use Rattle.plan.specs.declared.tasks.Limit.{Limit}
 use Rattle.plan.specs.declared.verdict.Verdict.{Verdict}
@@ -24,7 +24,7 @@ module _ (d : ℕ → ℕ → ℕ) (n : ℕ) (limits : List Limit) (m : ℕ) (ro
   no-earlier : (k k' : ℕ) → 1 ≤ k → k < k' → ((i : ℕ) → i + 1 ≡ k → Unbounded d n limits m rows i) → ((i : ℕ) → i + 1 < k' → (w : ℕ) × Bounded d n limits m rows i w) → ⊥
   no-earlier k k' some less late early = let b = early (k - 1) (omega arith) in not-both (k - 1) b.0 b.1 (late (k - 1) (omega arith))
 
-  pub once : (v : Verdict) (bounds : List ℕ) → Judged d n limits m rows v bounds → Only-judged d n limits m rows v bounds
+  pub once : (v : Verdict) (bounds : List ℕ) → Judged d n limits m rows v bounds → OnlyJudged d n limits m rows v bounds
   once (Accepted k) bounds h (Accepted k') bounds' h' = (let same : k' ≡ k = omega (arith, h.0, h'.0) in ap Accepted same, λ i l. same-smallest _ (get_or bounds i 0) (get_or bounds' i 0) (h.3 i (omega (arith, h.0))).0 (h'.3 i (omega (arith, h.0))).0)
   once (Accepted k) bounds h NotJudgeable bounds' h' = absurd (elim h' [ inl none ↦ omega (arith, h.1) | inr many ↦ omega (arith, h.2) ])
   once (Accepted k) bounds h (Late k') bounds' h' = absurd (not-both (k' - 1) (get_or bounds (k' - 1) 0) (h.3 (k' - 1) (omega (arith, h'.1, h'.2))) (h'.4 (k' - 1) (omega (arith, h'.1))))

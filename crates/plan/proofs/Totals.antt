@@ -2,13 +2,13 @@
 use Rattle.std.proofs.Common.{◌≡◌, ℕ, zero, suc, ◌+◌, ◌*◌, ◌<◌, ◌≤◌, cond, ◌&&◌, leb, Some, None, Option, unwrap_or, ap, ◌∙◌, arith}
 use Rattle.std.proofs.lemmas.Bool.{and_from, le-leb}
 use Rattle.cycles.proofs.Rounds.{sum-on, sum-least}
-use Rattle.source.specs.Facts.{isPart, Sound}
+use Rattle.source.specs.Facts.{is_part, Sound}
 use Rattle.source.proofs.Parts.{part-from}
 use Rattle.plan.specs.Needs.{of_part, total}
 
 -- the answer of a source to the question for the part at place k
-pub asked : (n k l x : ℕ) (o : Option ℕ) → k < n → l ≤ 1000000 → o ≡ cond (isPart n (k + 1) && leb l 1000000) (Some x) None → unwrap_or o 0 ≡ x
-asked n k l x o h w e = ap (λ a. unwrap_or a 0) (e ∙ ap (λ b. cond b (Some x) None) (and_from (isPart n (k + 1)) (leb l 1000000) (part-from n (k + 1) (omega arith) (omega arith)) (le-leb l 1000000 w)))
+pub asked : (n k l x : ℕ) (o : Option ℕ) → k < n → l ≤ 1000000 → o ≡ cond (is_part n (k + 1) && leb l 1000000) (Some x) None → unwrap_or o 0 ≡ x
+asked n k l x o h w e = ap (λ a. unwrap_or a 0) (e ∙ ap (λ b. cond b (Some x) None) (and_from (is_part n (k + 1)) (leb l 1000000) (part-from n (k + 1) (omega arith) (omega arith)) (le-leb l 1000000 w)))
 
 pub total-on : (d : ℕ → ℕ → ℕ) (k l : ℕ) → total d (k + 1) l ≡ total d k l + d (k + 1) l
 total-on d k l = sum-on (of_part d l) k

@@ -3,7 +3,7 @@ use Rattle.std.specs.Prelude.{◌≡◌, ℕ, ◌+◌, ◌<◌, ◌≤◌, ◌�
 use Rattle.refusal.specs.declared.Fault.TheVariants as faults
 use Rattle.refusal.specs.declared.Refusal.{Refusal}
 use Rattle.paced.specs.declared.row.Row.{Row}
-use Rattle.plan.specs.Limits.{limitAt}
+use Rattle.plan.specs.Limits.{limit_at}
 use Rattle.plan.specs.Needs.{needed, Smallest, Searched}
 use Rattle.plan.specs.declared.tasks.Limit.{Limit}
 use Rattle.plan.specs.declared.verdict.Verdict.{Verdict}
@@ -21,25 +21,25 @@ told NotJudgeable = record { number = 9; value = 0 }
 told (Late i) = record { number = 10; value = i }
 
 -- the count of tasks, or the refusal, which is about no line yet
-abbrev pub outcome-of : Verdict → Result ℕ Refusal
-outcome-of (Accepted n) = Ok n
-outcome-of NotJudgeable = Err (record { fault = faults.NotJudgeable; line = 0; task = 0 })
-outcome-of (Late i) = Err (record { fault = faults.NoWindow; line = 0; task = i })
+abbrev pub outcome_of : Verdict → Result ℕ Refusal
+outcome_of (Accepted n) = Ok n
+outcome_of NotJudgeable = Err (record { fault = faults.NotJudgeable; line = 0; task = 0 })
+outcome_of (Late i) = Err (record { fault = faults.NoWindow; line = 0; task = i })
 
 -- how many bounds a plan with that verdict tells
-abbrev pub bounds-told : Verdict → ℕ
-bounds-told (Accepted n) = n
-bounds-told NotJudgeable = 0
-bounds-told (Late i) = 0
+abbrev pub bounds_told : Verdict → ℕ
+bounds_told (Accepted n) = n
+bounds_told NotJudgeable = 0
+bounds_told (Late i) = 0
 
 module _ (d : ℕ → ℕ → ℕ) (n : ℕ) (limits : List Limit) (m : ℕ) (rows : List Row) where
   -- task i, counted from 0, has w as the smallest window that holds what it needs, within its deadline
   abbrev pub Bounded : ℕ → ℕ → Type 0
-  Bounded i w = Smallest (needed d n limits m rows i) w × (w ≤ (limitAt limits i).deadline)
+  Bounded i w = Smallest (needed d n limits m rows i) w × (w ≤ (limit_at limits i).deadline)
 
   -- task i has no window within its deadline
   abbrev pub Unbounded : ℕ → Type 0
-  Unbounded i = Searched (needed d n limits m rows i) (limitAt limits i).deadline None
+  Unbounded i = Searched (needed d n limits m rows i) (limit_at limits i).deadline None
 
   -- the verdict on a bank of n parts with demand d and m tasks with these limits and rows, and the bounds that go with it
   abbrev pub Judged : Verdict → List ℕ → Type 0
@@ -49,12 +49,12 @@ module _ (d : ℕ → ℕ → ℕ) (n : ℕ) (limits : List Limit) (m : ℕ) (ro
 
 -- limits with the same blocking, and with no deadline of the first m tasks lower
 abbrev pub Raised : ℕ → List Limit → List Limit → Type 0
-Raised m limits limits' = (i : ℕ) → i < m → ((limitAt limits' i).blocking ≡ (limitAt limits i).blocking) × ((limitAt limits i).deadline ≤ (limitAt limits' i).deadline)
+Raised m limits limits' = (i : ℕ) → i < m → ((limit_at limits' i).blocking ≡ (limit_at limits i).blocking) × ((limit_at limits i).deadline ≤ (limit_at limits' i).deadline)
 
 -- a higher deadline never turns an accepted plan into a refused one, and the bounds stay
-abbrev pub Stays-accepted : (ℕ → ℕ → ℕ) → ℕ → List Limit → ℕ → List Row → Verdict → List ℕ → Type 0
-Stays-accepted d n limits m rows v bounds = (limits' : List Limit) → Raised m limits limits' → v ≡ Accepted m → Judged d n limits' m rows v bounds
+abbrev pub StaysAccepted : (ℕ → ℕ → ℕ) → ℕ → List Limit → ℕ → List Row → Verdict → List ℕ → Type 0
+StaysAccepted d n limits m rows v bounds = (limits' : List Limit) → Raised m limits limits' → v ≡ Accepted m → Judged d n limits' m rows v bounds
 
 -- no other verdict can be given, and no other bounds
-abbrev pub Only-judged : (ℕ → ℕ → ℕ) → ℕ → List Limit → ℕ → List Row → Verdict → List ℕ → Type 0
-Only-judged d n limits m rows v bounds = (v' : Verdict) (bounds' : List ℕ) → Judged d n limits m rows v' bounds' → (v' ≡ v) × ((i : ℕ) → i < bounds-told v → slice_index bounds' i ≡ slice_index bounds i)
+abbrev pub OnlyJudged : (ℕ → ℕ → ℕ) → ℕ → List Limit → ℕ → List Row → Verdict → List ℕ → Type 0
+OnlyJudged d n limits m rows v bounds = (v' : Verdict) (bounds' : List ℕ) → Judged d n limits m rows v' bounds' → (v' ≡ v) × ((i : ℕ) → i < bounds_told v → slice_index bounds' i ≡ slice_index bounds i)

@@ -9,18 +9,18 @@ use Rattle.plan.specs.declared.tasks.Limit.{Limit}
 abbrev pub unlimited : Limit
 unlimited = record { blocking = 0; deadline = 0; hold = 0 }
 
-abbrev pub limitAt : List Limit → ℕ → Limit
-limitAt limits i = slice_index_or limits i unlimited
+abbrev pub limit_at : List Limit → ℕ → Limit
+limit_at limits i = slice_index_or limits i unlimited
 
 -- a hold of h is at most the blocking of each of the first n tasks
 abbrev pub bearable : List Limit → ℕ → ℕ → Bool
 bearable limits h zero = true
-bearable limits h (suc n) = nat_le h (limitAt limits n).blocking && bearable limits h n
+bearable limits h (suc n) = nat_le h (limit_at limits n).blocking && bearable limits h n
 
 -- what is wrong with blocking b, deadline d and longest hold h of one task more, with period t and jitter j, after n tasks
-abbrev pub limit-fault : List Limit → ℕ → ℕ → ℕ → ℕ → ℕ → ℕ → Option Fault
-limit-fault limits n t j b d h = cond (in_range d && (nat_le b 1000000 && nat_le h 1000000)) (cond (nat_le (d + j) t) (cond (bearable limits h n) None (Some HoldAboveBlocking)) (Some Misfit)) (Some OutOfRange)
+abbrev pub limit_fault : List Limit → ℕ → ℕ → ℕ → ℕ → ℕ → ℕ → Option Fault
+limit_fault limits n t j b d h = cond (in_range d && (nat_le b 1000000 && nat_le h 1000000)) (cond (nat_le (d + j) t) (cond (bearable limits h n) None (Some HoldAboveBlocking)) (Some Misfit)) (Some OutOfRange)
 
 -- what is wrong with one task more
-abbrev pub task-fault : List Limit → ℕ → ℕ → ℕ → ℕ → ℕ → ℕ → List ℕ → Option Fault
-task-fault limits n t j b d h costs = first_of (adding 16 n t j costs) (limit-fault limits n t j b d h)
+abbrev pub task_fault : List Limit → ℕ → ℕ → ℕ → ℕ → ℕ → ℕ → List ℕ → Option Fault
+task_fault limits n t j b d h costs = first_of (adding 16 n t j costs) (limit_fault limits n t j b d h)

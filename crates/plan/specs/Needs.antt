@@ -2,10 +2,10 @@
 -- it. The bound is the smallest window that holds its need.
 use Rattle.std.specs.Prelude.{ℕ, ◌+◌, ◌<◌, ◌≤◌, List, Some, None, Option}
 use Rattle.cycles.specs.Round.{sum}
-use Rattle.paced.specs.Pace.{largest-cost}
-use Rattle.paced.specs.Tables.{row_at, demandsOf}
+use Rattle.paced.specs.Pace.{largest_cost}
+use Rattle.paced.specs.Tables.{row_at, demands_of}
 use Rattle.paced.specs.declared.row.Row.{Row}
-use Rattle.plan.specs.Limits.{limitAt}
+use Rattle.plan.specs.Limits.{limit_at}
 use Rattle.plan.specs.declared.tasks.Limit.{Limit}
 
 abbrev pub of_part : (ℕ → ℕ → ℕ) → ℕ → ℕ → ℕ
@@ -21,7 +21,7 @@ need b c d n e m l = b + c + total d n l + total e m l
 
 -- what task i, counted from 0, of a plan needs: its bank has n parts of demand d, its m tasks have these limits and rows
 abbrev pub needed : (ℕ → ℕ → ℕ) → ℕ → List Limit → ℕ → List Row → ℕ → ℕ → ℕ
-needed d n limits m rows i l = need (limitAt limits i).blocking (largest-cost (row_at rows i)) d n (demandsOf m (row_at rows)) i l
+needed d n limits m rows i l = need (limit_at limits i).blocking (largest_cost (row_at rows i)) d n (demands_of m (row_at rows)) i l
 
 -- w is the smallest window, of at least a tick, that holds what is needed
 pub record Smallest (needed : ℕ → ℕ) (w : ℕ) : Type 0 where

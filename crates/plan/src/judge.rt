@@ -1,6 +1,6 @@
 // The judge: task after task, from the highest on, until one has no window within its deadline.
 ghost use Rattle.std.specs.Prelude.{◌≡◌, ℕ, ◌+◌, ◌<◌, ◌≤◌};
-ghost use Rattle.plan.specs.Judged.{Judged, Only-judged};
+ghost use Rattle.plan.specs.Judged.{Judged, OnlyJudged};
 
 use crate::search::window_of;
 use crate::tasks::Tasks;
@@ -46,7 +46,7 @@ fn find<S: Source>(bank: &S, tasks: &Tasks) -> Finding
 // What is found of a plan, with the law that nothing else can be found.
 pub(crate) fn verdict_on<S: Source>(bank: &S, tasks: &Tasks) -> Finding
     ensures judged { Judged (S.Source.demanded bank.now) (S.Source.parts bank.now) tasks.now.limits tasks.now.parts.count tasks.now.parts.rows result.verdict result.bounds }
-    ensures only { Only-judged (S.Source.demanded bank.now) (S.Source.parts bank.now) tasks.now.limits tasks.now.parts.count tasks.now.parts.rows result.verdict result.bounds }
+    ensures only { OnlyJudged (S.Source.demanded bank.now) (S.Source.parts bank.now) tasks.now.limits tasks.now.parts.count tasks.now.parts.rows result.verdict result.bounds }
 {
     find(bank, tasks)
 }

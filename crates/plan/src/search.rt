@@ -1,6 +1,6 @@
 // The search for the smallest window that holds what a task needs.
 ghost use Rattle.std.specs.Prelude.{◌≡◌, ℕ, ◌+◌, ◌<◌, ◌≤◌};
-ghost use Rattle.plan.specs.Limits.{limitAt};
+ghost use Rattle.plan.specs.Limits.{limit_at};
 ghost use Rattle.plan.specs.Needs.{total, needed, Searched};
 
 use crate::tasks::Tasks;
@@ -39,7 +39,7 @@ fn need_of<S: Source>(bank: &S, tasks: &Tasks, place: u32, ticks: u32) -> u64
 pub(crate) fn window_of<S: Source>(bank: &S, tasks: &Tasks, place: u32) -> Option<u32>
     requires few { S.Source.parts bank.now ≤ 16 }
     requires task { place < tasks.now.parts.count }
-    ensures { Searched (needed (S.Source.demanded bank.now) (S.Source.parts bank.now) tasks.now.limits tasks.now.parts.count tasks.now.parts.rows place) (limitAt tasks.now.limits place).deadline result }
+    ensures { Searched (needed (S.Source.demanded bank.now) (S.Source.parts bank.now) tasks.now.limits tasks.now.parts.count tasks.now.parts.rows place) (limit_at tasks.now.limits place).deadline result }
 {
     let deadline = tasks.deadline(place);
     let mut ticks = 1;

@@ -1,8 +1,8 @@
 // A plan from open to judged. Each stage is used up by the next, so a judged plan takes no more tasks.
 ghost use Rattle.std.specs.Prelude.{◌≡◌, ℕ, ◌+◌, ◌-◌, ◌<◌, ◌≤◌, min, ◌++◌, length, take, drop, replicate, Some, None, MatchResult, slice_set};
 ghost use Rattle.paced.specs.Makes.{fresh, unused};
-ghost use Rattle.plan.specs.Judged.{Judged, Only-judged, Stays-accepted, bounds-told};
-ghost use Rattle.plan.specs.Limits.{unlimited, task-fault};
+ghost use Rattle.plan.specs.Judged.{Judged, OnlyJudged, StaysAccepted, bounds_told};
+ghost use Rattle.plan.specs.Limits.{unlimited, task_fault};
 
 use crate::judge::verdict_on;
 use crate::tasks::{Limit, Tasks};
@@ -25,7 +25,7 @@ pub struct JudgedPlan<S> {
     verdict: Verdict,
     bounds: [u32; 16],
     ghost held: { length bounds ≡ 16 },
-    ghost few: { bounds-told verdict ≤ 16 },
+    ghost few: { bounds_told verdict ≤ 16 },
 }
 
 impl<S> OpenPlan<S> {
@@ -59,7 +59,7 @@ impl<S> OpenPlan<S> {
         costs: &[u32],
     ) -> Result<(), Refusal>
         ensures bank { self.new.bank ≡ self.old.bank }
-        ensures added { MatchResult result (λ _. (task-fault self.old.tasks.limits self.old.tasks.parts.count period jitter limit.blocking limit.deadline limit.hold costs.now ≡ None) × (self.new.tasks.parts.rows ≡ slice_set self.old.tasks.parts.rows self.old.tasks.parts.count (fresh period jitter costs.now)) × (self.new.tasks.parts.count ≡ self.old.tasks.parts.count + 1) × (self.new.tasks.limits ≡ slice_set self.old.tasks.limits self.old.tasks.parts.count limit)) (λ e. (task-fault self.old.tasks.limits self.old.tasks.parts.count period jitter limit.blocking limit.deadline limit.hold costs.now ≡ Some e.fault) × (e.line ≡ 0) × (e.task ≡ self.old.tasks.parts.count + 1) × (self.new.tasks ≡ self.old.tasks)) }
+        ensures added { MatchResult result (λ _. (task_fault self.old.tasks.limits self.old.tasks.parts.count period jitter limit.blocking limit.deadline limit.hold costs.now ≡ None) × (self.new.tasks.parts.rows ≡ slice_set self.old.tasks.parts.rows self.old.tasks.parts.count (fresh period jitter costs.now)) × (self.new.tasks.parts.count ≡ self.old.tasks.parts.count + 1) × (self.new.tasks.limits ≡ slice_set self.old.tasks.limits self.old.tasks.parts.count limit)) (λ e. (task_fault self.old.tasks.limits self.old.tasks.parts.count period jitter limit.blocking limit.deadline limit.hold costs.now ≡ Some e.fault) × (e.line ≡ 0) × (e.task ≡ self.old.tasks.parts.count + 1) × (self.new.tasks ≡ self.old.tasks)) }
     {
         self.tasks.add(period, jitter, limit, costs)
     }
@@ -71,8 +71,8 @@ impl<S: Source> OpenPlan<S> {
         ensures bank { result.bank ≡ self.bank }
         ensures tasks { result.tasks ≡ self.tasks }
         ensures judged { Judged (S.Source.demanded self.bank) (S.Source.parts self.bank) self.tasks.limits self.tasks.parts.count self.tasks.parts.rows result.verdict result.bounds }
-        ensures only { Only-judged (S.Source.demanded self.bank) (S.Source.parts self.bank) self.tasks.limits self.tasks.parts.count self.tasks.parts.rows result.verdict result.bounds }
-        ensures stays { Stays-accepted (S.Source.demanded self.bank) (S.Source.parts self.bank) self.tasks.limits self.tasks.parts.count self.tasks.parts.rows result.verdict result.bounds }
+        ensures only { OnlyJudged (S.Source.demanded self.bank) (S.Source.parts self.bank) self.tasks.limits self.tasks.parts.count self.tasks.parts.rows result.verdict result.bounds }
+        ensures stays { StaysAccepted (S.Source.demanded self.bank) (S.Source.parts self.bank) self.tasks.limits self.tasks.parts.count self.tasks.parts.rows result.verdict result.bounds }
     {
         let OpenPlan { bank, tasks } = self;
         let found = verdict_on(&bank, &tasks);
@@ -96,7 +96,7 @@ impl<S> JudgedPlan<S> {
     // Writes the bounds into a list, as many as fit, and returns how many it wrote: none if the plan is not accepted. The
     // rest of the list does not change.
     pub fn bounds(&self, list: &mut [u32]) -> usize
-        ensures count { result ≡ min (bounds-told self.now.verdict) (length list.old) }
+        ensures count { result ≡ min (bounds_told self.now.verdict) (length list.old) }
         ensures list { list.new ≡ take result self.now.bounds ++ drop result list.old }
     {
         let count = list.len().min(self.verdict.bounds() as usize);

@@ -1,11 +1,11 @@
 // The table of tasks. A task is a paced part with blocking, deadline and longest hold; the first task is the highest.
 ghost use Rattle.std.specs.Prelude.{◌≡◌, ℕ, ◌+◌, ◌-◌, ◌^◌, ◌<◌, ◌≤◌, true, false, ◌&&◌, length, replicate, if◌then◌else◌, Some, None, MatchResult, slice_set};
-ghost use Rattle.source.specs.Facts.{isPart};
-ghost use Rattle.paced.specs.Loads.{row-load};
+ghost use Rattle.source.specs.Facts.{is_part};
+ghost use Rattle.paced.specs.Loads.{row_load};
 ghost use Rattle.paced.specs.Makes.{fresh, adding, unused};
-ghost use Rattle.paced.specs.Pace.{largest-cost};
+ghost use Rattle.paced.specs.Pace.{largest_cost};
 ghost use Rattle.paced.specs.Tables.{row_at};
-ghost use Rattle.plan.specs.Limits.{unlimited, limitAt, bearable, limit-fault, task-fault};
+ghost use Rattle.plan.specs.Limits.{unlimited, limit_at, bearable, limit_fault, task_fault};
 
 use paced::row::in_range;
 use paced::table::Table;
@@ -27,9 +27,9 @@ pub struct Tasks {
     parts: Table,
     limits: [Limit; 16],
     ghost held: { length limits ≡ 16 },
-    ghost deadlines: { (i : ℕ) → i < parts.count → (limitAt limits i).deadline + (row_at parts.rows i).jitter ≤ (row_at parts.rows i).period },
-    ghost blockings: { (i : ℕ) → i < parts.count → (limitAt limits i).blocking ≤ 1000000 },
-    ghost holds: { (i j : ℕ) → i < j → j < parts.count → (limitAt limits j).hold ≤ (limitAt limits i).blocking },
+    ghost deadlines: { (i : ℕ) → i < parts.count → (limit_at limits i).deadline + (row_at parts.rows i).jitter ≤ (row_at parts.rows i).period },
+    ghost blockings: { (i : ℕ) → i < parts.count → (limit_at limits i).blocking ≤ 1000000 },
+    ghost holds: { (i j : ℕ) → i < j → j < parts.count → (limit_at limits j).hold ≤ (limit_at limits i).blocking },
 }
 
 // Whether a hold is at most the blocking in each of some limits.
@@ -72,7 +72,7 @@ impl Tasks {
 
     // What is wrong with the limits of one task more, if anything is.
     fn limit_fault(&self, period: u32, jitter: u32, limit: Limit) -> Option<Fault>
-        ensures { result ≡ limit-fault self.now.limits self.now.parts.count period jitter limit.blocking limit.deadline limit.hold }
+        ensures { result ≡ limit_fault self.now.limits self.now.parts.count period jitter limit.blocking limit.deadline limit.hold }
     {
         if !in_range(limit.deadline) || limit.blocking > LONGEST || limit.hold > LONGEST {
             return Some(Fault::OutOfRange);
@@ -96,7 +96,7 @@ impl Tasks {
         limit: Limit,
         costs: &[u32],
     ) -> Result<(), Refusal>
-        ensures { MatchResult result (λ _. (task-fault self.old.limits self.old.parts.count period jitter limit.blocking limit.deadline limit.hold costs.now ≡ None) × (self.new.parts.rows ≡ slice_set self.old.parts.rows self.old.parts.count (fresh period jitter costs.now)) × (self.new.parts.count ≡ self.old.parts.count + 1) × (self.new.limits ≡ slice_set self.old.limits self.old.parts.count limit)) (λ e. (task-fault self.old.limits self.old.parts.count period jitter limit.blocking limit.deadline limit.hold costs.now ≡ Some e.fault) × (e.line ≡ 0) × (e.task ≡ self.old.parts.count + 1) × (self.new ≡ self.old)) }
+        ensures { MatchResult result (λ _. (task_fault self.old.limits self.old.parts.count period jitter limit.blocking limit.deadline limit.hold costs.now ≡ None) × (self.new.parts.rows ≡ slice_set self.old.parts.rows self.old.parts.count (fresh period jitter costs.now)) × (self.new.parts.count ≡ self.old.parts.count + 1) × (self.new.limits ≡ slice_set self.old.limits self.old.parts.count limit)) (λ e. (task_fault self.old.limits self.old.parts.count period jitter limit.blocking limit.deadline limit.hold costs.now ≡ Some e.fault) × (e.line ≡ 0) × (e.task ≡ self.old.parts.count + 1) × (self.new ≡ self.old)) }
     {
         let found = first_fault(
             self.parts.fault(period, jitter, costs),
@@ -135,7 +135,7 @@ impl Tasks {
 
     // The limits of a task, or None if there is no such task.
     pub fn limit(&self, task: u32) -> Option<Limit>
-        ensures { result ≡ (if isPart self.now.parts.count task then Some (limitAt self.now.limits (task - 1)) else None) }
+        ensures { result ≡ (if is_part self.now.parts.count task then Some (limit_at self.now.limits (task - 1)) else None) }
     {
         if task < 1 || task > self.parts.count() {
             return None;
@@ -145,7 +145,7 @@ impl Tasks {
 
     // The share of the processor's time that a task asks for, in ten-thousandths, or None if there is no such task.
     pub fn load(&self, task: u32) -> Option<u64>
-        ensures { result ≡ (if isPart self.now.parts.count task then Some (row-load (row_at self.now.parts.rows (task - 1))) else None) }
+        ensures { result ≡ (if is_part self.now.parts.count task then Some (row_load (row_at self.now.parts.rows (task - 1))) else None) }
     {
         self.parts.load(task)
     }
@@ -160,7 +160,7 @@ impl Tasks {
     // The deadline of the task at a place, counted from 0.
     pub(crate) fn deadline(&self, place: u32) -> u32
         requires { place < self.now.parts.count }
-        ensures value { result ≡ (limitAt self.now.limits place).deadline }
+        ensures value { result ≡ (limit_at self.now.limits place).deadline }
         ensures small { result ≤ 1000000 }
     {
         self.limits[place as usize].deadline
@@ -169,7 +169,7 @@ impl Tasks {
     // What the task at a place needs besides what goes before it: its blocking and its largest cost.
     pub(crate) fn own_need(&self, place: u32) -> u64
         requires { place < self.now.parts.count }
-        ensures value { result ≡ (limitAt self.now.limits place).blocking + largest-cost (row_at self.now.parts.rows place) }
+        ensures value { result ≡ (limit_at self.now.limits place).blocking + largest_cost (row_at self.now.parts.rows place) }
         ensures small { result < 2 ^ 33 }
     {
         let largest = self.parts.largest_cost(place + 1).unwrap_or(0);

@@ -1,6 +1,6 @@
 // The judge's verdict on a plan.
 ghost use Rattle.std.specs.Prelude.{◌≡◌};
-ghost use Rattle.plan.specs.Judged.{told, outcome-of, bounds-told};
+ghost use Rattle.plan.specs.Judged.{told, outcome_of, bounds_told};
 
 use refusal::{Fault, Refusal};
 
@@ -28,7 +28,7 @@ impl Verdict {
 
     // How many tasks are accepted, or the refusal that the verdict stands for, which is about no line yet.
     pub fn outcome(self) -> Result<u32, Refusal>
-        ensures { result ≡ outcome-of self }
+        ensures { result ≡ outcome_of self }
     {
         match self {
             Verdict::Accepted(tasks) => Ok(tasks),
@@ -39,7 +39,7 @@ impl Verdict {
 
     // How many bounds go with the verdict: one for each task of an accepted plan.
     pub fn bounds(self) -> u32
-        ensures { result ≡ bounds-told self }
+        ensures { result ≡ bounds_told self }
     {
         match self {
             Verdict::Accepted(tasks) => tasks,

@@ -2,9 +2,9 @@
 ghost use Rattle.std.specs.Prelude.{◌≡◌, ℕ, ◌+◌, ◌-◌, ◌*◌, ◌<◌, ◌≤◌, true, false, cond, ◌&&◌, length as size, set, replicate, Some, None, MatchResult};
 ghost use Rattle.cycles.specs.Round.{sum, next};
 ghost use Rattle.loads.specs.Share.{load_of};
-ghost use Rattle.source.specs.Facts.{isPart, single, offerable, Sound, Kept, Taken, Ticked, Driven};
-ghost use Rattle.schedule.specs.Makes.{cycle-fault, pair-fault};
-ghost use Rattle.schedule.specs.Phases.{none, offset-of, length-of, demand, allowance, later, Gives, View};
+ghost use Rattle.source.specs.Facts.{is_part, single, offerable, Sound, Kept, Taken, Ticked, Driven};
+ghost use Rattle.schedule.specs.Makes.{cycle_fault, pair_fault};
+ghost use Rattle.schedule.specs.Phases.{none, offset_of, length_of, demand, allowance, later, Gives, View};
 ghost use Rattle.schedule.specs.Views.{view-sound, view-taken, view-ticked};
 
 use crate::slot::{Slot, largest_met, length_now};
@@ -30,17 +30,17 @@ pub struct Schedule {
     ghost held: { size slots ≡ 64 },
     ghost few: { count ≤ 64 },
     ghost turn: { (cycle ≤ 1000000) × (phase < cycle) },
-    ghost rising: { (i j : ℕ) → i < j → j < count → offset-of slots i < offset-of slots j },
-    ghost below: { (i : ℕ) → i < count → offset-of slots i < cycle },
-    ghost offsets: { (i : ℕ) → offset-of slots i ≤ 1000000 },
-    ghost lengths: { (i : ℕ) → length-of slots i ≤ 1000000 },
-    ghost all: { whole ≡ sum (length-of slots) count },
+    ghost rising: { (i j : ℕ) → i < j → j < count → offset_of slots i < offset_of slots j },
+    ghost below: { (i : ℕ) → i < count → offset_of slots i < cycle },
+    ghost offsets: { (i : ℕ) → offset_of slots i ≤ 1000000 },
+    ghost lengths: { (i : ℕ) → length_of slots i ≤ 1000000 },
+    ghost all: { whole ≡ sum (length_of slots) count },
 }
 
 impl Schedule {
     // A schedule with no pair, at phase 0, or a refusal: a cycle of 0 or above 1,000,000.
     pub fn new(cycle: u32) -> Result<Schedule, Refusal>
-        ensures { MatchResult result (λ s. (cycle-fault cycle ≡ None) × (s.cycle ≡ cycle) × (s.count ≡ 0) × (s.slots ≡ replicate 64 none) × (s.phase ≡ 0) × (s.taken ≡ false)) (λ e. (cycle-fault cycle ≡ Some e.fault) × (e.line ≡ 0) × (e.task ≡ 0)) }
+        ensures { MatchResult result (λ s. (cycle_fault cycle ≡ None) × (s.cycle ≡ cycle) × (s.count ≡ 0) × (s.slots ≡ replicate 64 none) × (s.phase ≡ 0) × (s.taken ≡ false)) (λ e. (cycle_fault cycle ≡ Some e.fault) × (e.line ≡ 0) × (e.task ≡ 0)) }
     {
         if cycle < 1 || cycle > LONGEST {
             return Err(Refusal::plain(Fault::OutOfRange));
@@ -62,7 +62,7 @@ impl Schedule {
     // One pair more behind the others, or a refusal: a 65th pair; a length of 0 or a number above 1,000,000; an offset
     // that is not below the cycle or not above that of the last pair.
     pub fn add(&mut self, offset: u32, length: u32) -> Result<(), Refusal>
-        ensures { MatchResult result (λ _. (pair-fault self.old.cycle self.old.count self.old.slots offset length ≡ None) × (self.new.cycle ≡ self.old.cycle) × (self.new.count ≡ self.old.count + 1) × (self.new.slots ≡ set self.old.slots self.old.count (record { offset = offset; length = length })) × (self.new.phase ≡ self.old.phase) × (self.new.taken ≡ self.old.taken)) (λ e. (pair-fault self.old.cycle self.old.count self.old.slots offset length ≡ Some e.fault) × (e.line ≡ 0) × (e.task ≡ 0) × (self.new ≡ self.old)) }
+        ensures { MatchResult result (λ _. (pair_fault self.old.cycle self.old.count self.old.slots offset length ≡ None) × (self.new.cycle ≡ self.old.cycle) × (self.new.count ≡ self.old.count + 1) × (self.new.slots ≡ set self.old.slots self.old.count (record { offset = offset; length = length })) × (self.new.phase ≡ self.old.phase) × (self.new.taken ≡ self.old.taken)) (λ e. (pair_fault self.old.cycle self.old.count self.old.slots offset length ≡ Some e.fault) × (e.line ≡ 0) × (e.task ≡ 0) × (self.new ≡ self.old)) }
     {
         if self.count >= PAIRS {
             return Err(Refusal::plain(Fault::TooMany));
@@ -86,7 +86,7 @@ impl Schedule {
 
     // The share of the processor's time that the schedule asks for, in ten-thousandths: all its lengths come once a cycle.
     pub fn load(&self) -> u64
-        ensures { result ≡ load_of (sum (length-of self.now.slots) self.now.count) self.now.cycle }
+        ensures { result ≡ load_of (sum (length_of self.now.slots) self.now.count) self.now.cycle }
     {
         load(self.whole, self.cycle)
     }

@@ -6,7 +6,7 @@ use Rattle.refusal.specs.declared.Fault.TheVariants as faults
 use Rattle.refusal.specs.declared.Refusal.{Refusal}
 use Rattle.paced.specs.declared.rack.Rack.{Rack}
 use Rattle.schedule.specs.declared.cyclic.Schedule.{Schedule}
-use Rattle.plan.specs.Judged.{outcome-of, bounds-told}
+use Rattle.plan.specs.Judged.{outcome_of, bounds_told}
 use Rattle.plan.specs.declared.tasks.Tasks.{Tasks}
 use Rattle.plan.specs.declared.verdict.Verdict.{Verdict}
 use Rattle.plan.specs.declared.verdict.Verdict.TheVariants.{Accepted, NotJudgeable, Late}
@@ -25,7 +25,7 @@ refusal_is : (e : Refusal) (f : Refusal) → e.fault ≡ f.fault → e.line ≡ 
 refusal_is e f a b c = λ i. record { fault = a i; line = b i; task = c i }
 
 -- a refusal of the judge, with the line of its task
-pub refused : (s : Sheet) (v : Verdict) (bounds : List ℕ) (e e' : Refusal) → Err e ≡ outcome-of v → e'.fault ≡ e.fault → e'.line ≡ (told e.fault (s.lines - (s.plan.tasks - e.task)) e.task).line → e'.task ≡ (told e.fault (s.lines - (s.plan.tasks - e.task)) e.task).task → Answered s v bounds (Err e')
+pub refused : (s : Sheet) (v : Verdict) (bounds : List ℕ) (e e' : Refusal) → Err e ≡ outcome_of v → e'.fault ≡ e.fault → e'.line ≡ (told e.fault (s.lines - (s.plan.tasks - e.task)) e.task).line → e'.task ≡ (told e.fault (s.lines - (s.plan.tasks - e.task)) e.task).task → Answered s v bounds (Err e')
 refused s (Accepted n) bounds e e' o f l t = let z : ◌≡◌ {A = ℕ} 0 1 = cc in absurd (omega arith)
 refused s NotJudgeable bounds e e' o f l t =
     let is : e ≡ record { fault = faults.NotJudgeable; line = 0; task = 0 } = cc in
@@ -41,7 +41,7 @@ refused s (Late i) bounds e e' o f l t =
     (t ∙ ap (λ x. (told x.fault (s.lines - (s.plan.tasks - x.task)) x.task).task) is)
 
 -- the bounds of an accepted plan, copied to the front of a list
-pub accepted : (s : Sheet) (v : Verdict) (bounds list old : List ℕ) (n r : ℕ) → Ok n ≡ outcome-of v → JudgedPlan s.plan v bounds → length bounds ≡ 16 → bounds-told v ≤ 16 → r ≡ min (bounds-told v) 16 → list ≡ take r bounds ++ drop r old → Answered s v bounds (Ok list)
+pub accepted : (s : Sheet) (v : Verdict) (bounds list old : List ℕ) (n r : ℕ) → Ok n ≡ outcome_of v → JudgedPlan s.plan v bounds → length bounds ≡ 16 → bounds_told v ≤ 16 → r ≡ min (bounds_told v) 16 → list ≡ take r bounds ++ drop r old → Answered s v bounds (Ok list)
 accepted s (Accepted k) bounds list old n r o h long few c e = λ i lt.
     let whole : i < r = omega (arith, h.0) in
     ap (λ xs. get_or xs i 0) e

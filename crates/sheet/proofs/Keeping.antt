@@ -5,14 +5,14 @@ use Rattle.std.proofs.lemmas.Bool.{cases_lt, lt-leb, cond-false}
 use Rattle.refusal.specs.Table.{row, first_of}
 use Rattle.refusal.specs.declared.Fault.{Fault}
 use Rattle.refusal.specs.declared.Fault.TheVariants.{BadLine, TooMany, OutOfRange, Misfit}
-use Rattle.paced.specs.Makes.{given-right, fault-of, adding}
-use Rattle.plan.specs.Limits.{limit-fault}
-use Rattle.lines.specs.Rows.{Said, cycle, at, irq, task, costs-of, row_told}
-use Rattle.sheet.specs.Drafts.{Plan, plain, with-irq, with-task, unless, irq-line, task-line}
+use Rattle.paced.specs.Makes.{given_right, fault_of, adding}
+use Rattle.plan.specs.Limits.{limit_fault}
+use Rattle.lines.specs.Rows.{Said, cycle, at, irq, task, costs_of, row_told}
+use Rattle.sheet.specs.Drafts.{Plan, plain, with_irq, with_task, unless, irq_line, task_line}
 use Rattle.sheet.specs.Reading.{next}
 use Rattle.sheet.specs.Rowing.{kept, next_row}
 
-kept-is : (cs : List ℕ) → kept (costs-of cs) ≡ take 9 cs
+kept-is : (cs : List ℕ) → kept (costs_of cs) ≡ take 9 cs
 kept-is cs =
     elim (cases_lt (length cs) 9) [
       | inl short ↦
@@ -31,15 +31,15 @@ either_way false f e = refl
 
 -- more than eight costs are too many, whatever they are
 too_many : (most n t j : ℕ) (cs : List ℕ) → 8 < length cs → adding most n t j cs ≡ Some TooMany
-too_many most n t j cs h = either_way (ltb n most) (fault-of t j cs) (cond-false (leb (length cs) 8) (cond (given-right t j cs) (cond (ltb j t) None (Some Misfit)) (Some OutOfRange)) (Some TooMany) (lt-leb (length cs) 8 h))
+too_many most n t j cs h = either_way (ltb n most) (fault_of t j cs) (cond-false (leb (length cs) 8) (cond (given_right t j cs) (cond (ltb j t) None (Some Misfit)) (Some OutOfRange)) (Some TooMany) (lt-leb (length cs) 8 h))
 
-same-irq : (p : Plan) (t j : ℕ) (cs : List ℕ) → irq-line p t j (take 9 cs) ≡ irq-line p t j cs
+same-irq : (p : Plan) (t j : ℕ) (cs : List ℕ) → irq_line p t j (take 9 cs) ≡ irq_line p t j cs
 same-irq p t j cs =
     elim (cases_lt (length cs) 9) [
-      | inl short ↦ ap (irq-line p t j) (take_all 9 cs (omega arith))
+      | inl short ↦ ap (irq_line p t j) (take_all 9 cs (omega arith))
       | inr long ↦
-          ap (λ f. cond (eqb p.tasks 0) (unless f 0 (with-irq p t j (take 9 cs))) (Err (plain BadLine))) (too_many 8 p.irqs t j (take 9 cs) (omega (arith, length-take-le 9 cs long)))
-          ∙ sym (ap (λ f. cond (eqb p.tasks 0) (unless f 0 (with-irq p t j cs)) (Err (plain BadLine))) (too_many 8 p.irqs t j cs (omega arith)))
+          ap (λ f. cond (eqb p.tasks 0) (unless f 0 (with_irq p t j (take 9 cs))) (Err (plain BadLine))) (too_many 8 p.irqs t j (take 9 cs) (omega (arith, length-take-le 9 cs long)))
+          ∙ sym (ap (λ f. cond (eqb p.tasks 0) (unless f 0 (with_irq p t j cs)) (Err (plain BadLine))) (too_many 8 p.irqs t j cs (omega arith)))
     ]
 
 -- a fault is found where the costs are too many, whatever the limits are
@@ -54,15 +54,15 @@ some-fault (Some g) n p q = go (leb 5 (row_number g))
     go true = refl
     go false = refl
 
-same-task : (p : Plan) (t j b d h : ℕ) (cs : List ℕ) → task-line p t j b d h (take 9 cs) ≡ task-line p t j b d h cs
+same-task : (p : Plan) (t j b d h : ℕ) (cs : List ℕ) → task_line p t j b d h (take 9 cs) ≡ task_line p t j b d h cs
 same-task p t j b d h cs =
-    let limits = limit-fault p.limits p.tasks t j b d h in
+    let limits = limit_fault p.limits p.tasks t j b d h in
     elim (cases_lt (length cs) 9) [
-      | inl short ↦ ap (task-line p t j b d h) (take_all 9 cs (omega arith))
+      | inl short ↦ ap (task_line p t j b d h) (take_all 9 cs (omega arith))
       | inr long ↦
-          ap (λ f. unless (first_of f limits) (p.tasks + 1) (with-task p t j b d h (take 9 cs))) (too_many 16 p.tasks t j (take 9 cs) (omega (arith, length-take-le 9 cs long)))
-          ∙ some-fault limits (p.tasks + 1) (with-task p t j b d h (take 9 cs)) (with-task p t j b d h cs)
-          ∙ sym (ap (λ f. unless (first_of f limits) (p.tasks + 1) (with-task p t j b d h cs)) (too_many 16 p.tasks t j cs (omega arith)))
+          ap (λ f. unless (first_of f limits) (p.tasks + 1) (with_task p t j b d h (take 9 cs))) (too_many 16 p.tasks t j (take 9 cs) (omega (arith, length-take-le 9 cs long)))
+          ∙ some-fault limits (p.tasks + 1) (with_task p t j b d h (take 9 cs)) (with_task p t j b d h cs)
+          ∙ sym (ap (λ f. unless (first_of f limits) (p.tasks + 1) (with_task p t j b d h cs)) (too_many 16 p.tasks t j cs (omega arith)))
     ]
 
 pub same_next : (o : Option Plan) (r : Result Said Fault) → next_row o (row_told r) ≡ next o r
@@ -73,5 +73,5 @@ same_next None (Ok (irq t j cs)) = refl
 same_next None (Ok (task t j b d h cs)) = refl
 same_next (Some p) (Ok (cycle c)) = refl
 same_next (Some p) (Ok (at u z)) = refl
-same_next (Some p) (Ok (irq t j cs)) = ap (irq-line p t j) (kept-is cs) ∙ same-irq p t j cs
-same_next (Some p) (Ok (task t j b d h cs)) = ap (task-line p t j b d h) (kept-is cs) ∙ same-task p t j b d h cs
+same_next (Some p) (Ok (irq t j cs)) = ap (irq_line p t j) (kept-is cs) ∙ same-irq p t j cs
+same_next (Some p) (Ok (task t j b d h cs)) = ap (task_line p t j b d h) (kept-is cs) ∙ same-task p t j b d h cs

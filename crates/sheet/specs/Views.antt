@@ -8,10 +8,10 @@ use Rattle.sheet.specs.Drafts.{Plan}
 use Rattle.sheet.specs.declared.draft.Draft.{Draft}
 
 abbrev pub of_parts : Schedule → Rack → Tasks → Plan
-of_parts schedule rack tasks = record { cycle = schedule.cycle; pairs = schedule.count; slots = schedule.slots; phase = schedule.phase; taken = schedule.taken; irqs = rack.table.count; irq-rows = rack.table.rows; tasks = tasks.parts.count; task-rows = tasks.parts.rows; limits = tasks.limits }
+of_parts schedule rack tasks = record { cycle = schedule.cycle; pairs = schedule.count; slots = schedule.slots; phase = schedule.phase; taken = schedule.taken; irqs = rack.table.count; irq_rows = rack.table.rows; tasks = tasks.parts.count; task_rows = tasks.parts.rows; limits = tasks.limits }
 
 abbrev pub view : Draft → Plan
 view d = of_parts d.schedule d.rack d.tasks
 
-abbrev pub plan-view : OpenPlan (Pair Rack Schedule) → Plan
-plan-view p = of_parts p.bank.right p.bank.left p.tasks
+abbrev pub plan_view : OpenPlan (Pair Rack Schedule) → Plan
+plan_view p = of_parts p.bank.right p.bank.left p.tasks

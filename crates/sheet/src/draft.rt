@@ -1,7 +1,7 @@
 // A plan as it is read, row after row.
 ghost use Rattle.std.specs.Prelude.{◌≡◌, Ok, Err, MatchResult};
 ghost use Rattle.lines.specs.declared.row.Row.TheVariants.{At, Irq, Task};
-ghost use Rattle.sheet.specs.Rowing.{begun, gone-on};
+ghost use Rattle.sheet.specs.Rowing.{begun, gone_on};
 ghost use Rattle.sheet.specs.Views.{view};
 
 use lines::row::{Costs, Row};
@@ -39,7 +39,7 @@ impl Draft {
 
     // One pair more, which has to come before interrupts and tasks.
     fn add_pair(&mut self, offset: u32, length: u32) -> Result<(), Refusal>
-        ensures { MatchResult result (λ _. gone-on (view self.old) (At offset length) ≡ Ok (view self.new)) (λ e. gone-on (view self.old) (At offset length) ≡ Err e) }
+        ensures { MatchResult result (λ _. gone_on (view self.old) (At offset length) ≡ Ok (view self.new)) (λ e. gone_on (view self.old) (At offset length) ≡ Err e) }
     {
         if self.rack.count() > 0 || self.tasks.count() > 0 {
             return Err(Refusal::plain(Fault::BadLine));
@@ -49,7 +49,7 @@ impl Draft {
 
     // One interrupt more, which has to come before tasks.
     fn add_irq(&mut self, period: u32, jitter: u32, costs: Costs) -> Result<(), Refusal>
-        ensures { MatchResult result (λ _. gone-on (view self.old) (Irq period jitter costs) ≡ Ok (view self.new)) (λ e. gone-on (view self.old) (Irq period jitter costs) ≡ Err e) }
+        ensures { MatchResult result (λ _. gone_on (view self.old) (Irq period jitter costs) ≡ Ok (view self.new)) (λ e. gone_on (view self.old) (Irq period jitter costs) ≡ Err e) }
     {
         if self.tasks.count() > 0 {
             return Err(Refusal::plain(Fault::BadLine));
@@ -67,7 +67,7 @@ impl Draft {
         hold: u32,
         costs: Costs,
     ) -> Result<(), Refusal>
-        ensures { MatchResult result (λ _. gone-on (view self.old) (Task period jitter blocking deadline hold costs) ≡ Ok (view self.new)) (λ e. gone-on (view self.old) (Task period jitter blocking deadline hold costs) ≡ Err e) }
+        ensures { MatchResult result (λ _. gone_on (view self.old) (Task period jitter blocking deadline hold costs) ≡ Ok (view self.new)) (λ e. gone_on (view self.old) (Task period jitter blocking deadline hold costs) ≡ Err e) }
     {
         let limit = Limit {
             blocking,
@@ -79,7 +79,7 @@ impl Draft {
 
     // What a later row makes of the draft: pairs come before interrupts, and these before tasks.
     pub(crate) fn go_on(&mut self, row: &Row) -> Result<(), Refusal>
-        ensures { MatchResult result (λ _. gone-on (view self.old) row.now ≡ Ok (view self.new)) (λ e. gone-on (view self.old) row.now ≡ Err e) }
+        ensures { MatchResult result (λ _. gone_on (view self.old) row.now ≡ Ok (view self.new)) (λ e. gone_on (view self.old) row.now ≡ Err e) }
     {
         match *row {
             Row::Cycle { .. } => Err(Refusal::plain(Fault::BadLine)),

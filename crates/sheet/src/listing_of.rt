@@ -1,7 +1,7 @@
 // The listing of a sheet.
 ghost use Rattle.std.specs.Prelude.{◌≡◌, ℕ, ◌<◌, ◌≤◌, List, ◌++◌, length, drop, MatchResult, OnOk};
-ghost use Rattle.listing.specs.Listings.{listing-text, too_short};
-ghost use Rattle.sheet.specs.Marking.{Listed, Only-listed};
+ghost use Rattle.listing.specs.Listings.{listing_text, too_short};
+ghost use Rattle.sheet.specs.Marking.{Listed, OnlyListed};
 
 use crate::marking::marked;
 use listing::{Listing, ROOM, write_listing};
@@ -9,7 +9,7 @@ use refusal::{Fault, Refusal};
 
 // What is listed of a sheet.
 fn listing_of(sheet: &[u8]) -> Listing
-    ensures { Listed sheet.now (listing-text result) }
+    ensures { Listed sheet.now (listing_text result) }
 {
     match marked(sheet) {
         Ok(marks) => Listing::Accepted(marks),
@@ -19,8 +19,8 @@ fn listing_of(sheet: &[u8]) -> Listing
 
 // The same, with the law that nothing else is listed of it.
 fn only_listing_of(sheet: &[u8]) -> Listing
-    ensures listed { Listed sheet.now (listing-text result) }
-    ensures only { Only-listed sheet.now }
+    ensures listed { Listed sheet.now (listing_text result) }
+    ensures only { OnlyListed sheet.now }
 {
     listing_of(sheet)
 }
@@ -29,7 +29,7 @@ fn only_listing_of(sheet: &[u8]) -> Listing
 // was. A buffer of less than 2,048 bytes is refused before the sheet is read, and stays as it was.
 pub fn list(sheet: &[u8], buffer: &mut [u8]) -> Result<usize, Refusal>
     ensures listed { MatchResult result (λ n. (2048 ≤ length buffer.old) × ((text : List ℕ) × Listed sheet.now text × (n ≡ length text) × (buffer.new ≡ text ++ drop n buffer.old))) (λ e. (e ≡ too_short) × (length buffer.old < 2048) × (buffer.new ≡ buffer.old)) }
-    ensures only { OnOk result (Only-listed sheet.now) }
+    ensures only { OnOk result (OnlyListed sheet.now) }
 {
     if buffer.len() < ROOM {
         return Err(Refusal::plain(Fault::BufferTooShort));

@@ -1,12 +1,12 @@
 // What is told of a sheet: loads, bounds and deadlines, or a refusal.
 ghost use Rattle.std.specs.Prelude.{◌≡◌, ℕ, ◌+◌, ◌<◌, List, length, MatchResult, slice_index};
-ghost use Rattle.paced.specs.Loads.{row-load};
+ghost use Rattle.paced.specs.Loads.{row_load};
 ghost use Rattle.paced.specs.Tables.{row_at};
-ghost use Rattle.plan.specs.Limits.{limitAt};
+ghost use Rattle.plan.specs.Limits.{limit_at};
 ghost use Rattle.plan.specs.declared.verdict.Verdict.{Verdict};
-ghost use Rattle.listing.specs.Listings.{marks-text};
-ghost use Rattle.listing.specs.Texts.{unmarked, refusal-text};
-ghost use Rattle.sheet.specs.Marking.{JudgedPlan, Answered, part-load, accepted-plan, Listed};
+ghost use Rattle.listing.specs.Listings.{marks_text};
+ghost use Rattle.listing.specs.Texts.{unmarked, refusal_text};
+ghost use Rattle.sheet.specs.Marking.{JudgedPlan, Answered, part_load, accepted_plan, Listed};
 ghost use Rattle.sheet.specs.Views.{view};
 
 use crate::draft::Draft;
@@ -37,7 +37,7 @@ fn judged(finished: &Finished) -> Result<[u32; 16], Refusal>
 // The loads of the parts: the interrupts in their order, then the schedule.
 fn part_marks(draft: &Draft) -> Marks
     ensures count { result.part_count ≡ draft.now.rack.table.count + 1 }
-    ensures loads { (k : ℕ) → k < draft.now.rack.table.count + 1 → slice_index result.parts k ≡ part-load (view draft.now) k }
+    ensures loads { (k : ℕ) → k < draft.now.rack.table.count + 1 → slice_index result.parts k ≡ part_load (view draft.now) k }
     ensures tasks { result.task_count ≡ 0 }
 {
     let mut marks = Marks::new();
@@ -51,7 +51,7 @@ fn part_marks(draft: &Draft) -> Marks
 // What is told of the task at a place.
 fn task_mark(draft: &Draft, place: u32, bound: u32) -> TaskMark
     requires { place < draft.now.tasks.parts.count }
-    ensures { result ≡ record { bound = bound; deadline = (limitAt draft.now.tasks.limits place).deadline; load = row-load (row_at draft.now.tasks.parts.rows place) } }
+    ensures { result ≡ record { bound = bound; deadline = (limit_at draft.now.tasks.limits place).deadline; load = row_load (row_at draft.now.tasks.parts.rows place) } }
 {
     let deadline = match draft.tasks.limit(place + 1) {
         Some(limit) => limit.deadline,
@@ -67,7 +67,7 @@ fn task_mark(draft: &Draft, place: u32, bound: u32) -> TaskMark
 
 // What is told of an accepted plan: its parts, then its tasks.
 fn marks_of(draft: &Draft, bounds: &[u32; 16]) -> Marks
-    ensures { marks-text result ≡ accepted-plan (view draft.now) bounds.now }
+    ensures { marks_text result ≡ accepted_plan (view draft.now) bounds.now }
 {
     let mut marks = part_marks(draft);
     for place in 0..draft.tasks.count() {
@@ -78,7 +78,7 @@ fn marks_of(draft: &Draft, bounds: &[u32; 16]) -> Marks
 
 // What is told of a sheet: of its plan if it is accepted, else why it is refused.
 pub(crate) fn marked(sheet: &[u8]) -> Result<Marks, Refusal>
-    ensures { MatchResult result (λ marks. Listed sheet.now (marks-text marks)) (λ e. Listed sheet.now (refusal-text e)) }
+    ensures { MatchResult result (λ marks. Listed sheet.now (marks_text marks)) (λ e. Listed sheet.now (refusal_text e)) }
 {
     let finished = read(sheet)?;
     let bounds = judged(&finished)?;

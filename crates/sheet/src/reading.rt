@@ -1,7 +1,7 @@
 // From bytes to a draft, line after line.
 ghost use Rattle.std.specs.Prelude.{◌≡◌, ◌+◌, ◌<◌, ◌≤◌, length, Ok, Err, MatchResult};
 ghost use Rattle.std.specs.Option.{option_map};
-ghost use Rattle.lines.specs.Rows.{read-line, row_told};
+ghost use Rattle.lines.specs.Rows.{read_line, row_told};
 ghost use Rattle.sheet.specs.Reading.{step, read as reading};
 ghost use Rattle.sheet.specs.Rowing.{next_row};
 ghost use Rattle.sheet.specs.Views.{view};
@@ -17,7 +17,7 @@ pub const LONGEST_SHEET: usize = 16_384;
 
 // What a line makes of what was read before, which is nothing before the first line.
 fn next(draft: Option<Draft>, line: Line) -> Result<Draft, Refusal>
-    ensures { MatchResult result (λ d. next_row (option_map view draft) (row_told (read-line line.entry.bytes.now)) ≡ Ok (view d)) (λ e. next_row (option_map view draft) (row_told (read-line line.entry.bytes.now)) ≡ Err e) }
+    ensures { MatchResult result (λ d. next_row (option_map view draft) (row_told (read_line line.entry.bytes.now)) ≡ Ok (view d)) (λ e. next_row (option_map view draft) (row_told (read_line line.entry.bytes.now)) ≡ Err e) }
 {
     let row = row_of(line)?;
     match draft {

@@ -1,45 +1,45 @@
 -- What is given for the parts of a source, and for no other number; sources and gates of one part.
 use Rattle.std.proofs.Common.{◌≡◌, ℕ, ◌+◌, ◌≤◌, Bool, true, false, cond, ◌&&◌, leb, refl, ap, arith}
 use Rattle.std.proofs.lemmas.Bool.{leb-true, le-leb, cond-true, cond-false, and_parts, and_from}
-use Rattle.source.specs.Facts.{isPart, single, offerable, Sound, Kept, Taken, Ticked}
+use Rattle.source.specs.Facts.{is_part, single, offerable, Sound, Kept, Taken, Ticked}
 
-pub part-bounds : (n k : ℕ) → isPart n k ≡ true → (1 ≤ k) × (k ≤ n)
+pub part-bounds : (n k : ℕ) → is_part n k ≡ true → (1 ≤ k) × (k ≤ n)
 part-bounds n k e =
     let p = and_parts (leb 1 k) (leb k n) e in
     (leb-true 1 k p.0, leb-true k n p.1)
 
-pub part-from : (n k : ℕ) → 1 ≤ k → k ≤ n → isPart n k ≡ true
+pub part-from : (n k : ℕ) → 1 ≤ k → k ≤ n → is_part n k ≡ true
 part-from n k low high = and_from (leb 1 k) (leb k n) (le-leb 1 k low) (le-leb k n high)
 
 -- an offer that is taken names a part, and units within its allowance; and such an offer is taken
-pub offerable-parts : (n : ℕ) (a : ℕ → ℕ → ℕ) (k u : ℕ) → offerable n a k u ≡ true → (isPart n k ≡ true) × (1 ≤ u) × (u ≤ a k 1)
+pub offerable-parts : (n : ℕ) (a : ℕ → ℕ → ℕ) (k u : ℕ) → offerable n a k u ≡ true → (is_part n k ≡ true) × (1 ≤ u) × (u ≤ a k 1)
 offerable-parts n a k u e =
-    let p = and_parts (isPart n k) (leb 1 u && leb u (a k 1)) e in
+    let p = and_parts (is_part n k) (leb 1 u && leb u (a k 1)) e in
     let q = and_parts (leb 1 u) (leb u (a k 1)) p.1 in
     (p.0, leb-true 1 u q.0, leb-true u (a k 1) q.1)
 
-pub offerable-from : (n : ℕ) (a : ℕ → ℕ → ℕ) (k u : ℕ) → isPart n k ≡ true → 1 ≤ u → u ≤ a k 1 → offerable n a k u ≡ true
-offerable-from n a k u part some within = and_from (isPart n k) (leb 1 u && leb u (a k 1)) part (and_from (leb 1 u) (leb u (a k 1)) (le-leb 1 u some) (le-leb u (a k 1) within))
+pub offerable-from : (n : ℕ) (a : ℕ → ℕ → ℕ) (k u : ℕ) → is_part n k ≡ true → 1 ≤ u → u ≤ a k 1 → offerable n a k u ≡ true
+offerable-from n a k u part some within = and_from (is_part n k) (leb 1 u && leb u (a k 1)) part (and_from (leb 1 u) (leb u (a k 1)) (le-leb 1 u some) (le-leb u (a k 1) within))
 
 -- for a part one thing, for any other number 0
-pub by_part : (R : ℕ → ℕ → Type 0) (n k x y : ℕ) → (isPart n k ≡ true → R x y) → R 0 0 → R (cond (isPart n k) x 0) (cond (isPart n k) y 0)
-by_part R n k x y part none = go (isPart n k) refl
+pub by_part : (R : ℕ → ℕ → Type 0) (n k x y : ℕ) → (is_part n k ≡ true → R x y) → R 0 0 → R (cond (is_part n k) x 0) (cond (is_part n k) y 0)
+by_part R n k x y part none = go (is_part n k) refl
   where
-    go : (b : Bool) → isPart n k ≡ b → R (cond b x 0) (cond b y 0)
+    go : (b : Bool) → is_part n k ≡ b → R (cond b x 0) (cond b y 0)
     go true e = part e
     go false e = none
 
 -- sources and gates of one part
 
 pub single-at : (f : ℕ → ℕ) (k l : ℕ) → k ≡ 1 → single f k l ≡ f l
-single-at f k l e = cond-true (isPart 1 k) (f l) 0 (part-from 1 k (omega arith) (omega arith))
+single-at f k l e = cond-true (is_part 1 k) (f l) 0 (part-from 1 k (omega arith) (omega arith))
 
 pub single-sound : (d a : ℕ → ℕ) → d 0 ≡ 0 → ((l m : ℕ) → l ≤ m → d l ≤ d m) → ((l : ℕ) → l ≤ 1000000 → d l ≤ 10000000000000) → ((l : ℕ) → a l ≤ d l) → Sound 1 (single d) (single a)
 single-sound d a none rises small within =
     record {
       few = omega arith;
       none = λ k. by_part (λ x y. x ≡ 0) 1 k (d 0) 0 (λ _. none) refl;
-      outside = λ k l e. cond-false (isPart 1 k) (d l) 0 e;
+      outside = λ k l e. cond-false (is_part 1 k) (d l) 0 e;
       rises = λ k l m h. by_part (λ x y. x ≤ y) 1 k (d l) (d m) (λ _. rises l m h) (omega arith);
       small = λ k l h. by_part (λ x y. x ≤ 10000000000000) 1 k (d l) 0 (λ _. small l h) (omega arith);
       within = λ k l. by_part (λ x y. x ≤ y) 1 k (a l) (d l) (λ _. within l) (omega arith);

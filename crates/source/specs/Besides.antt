@@ -1,9 +1,10 @@
 -- Two sources side by side are a source, and two gates a gate.
+-- Lemmas only, which laws of traits cite; a reader of the definitions can pass over them.
 use Rattle.std.specs.Prelude.{◌≡◌, ℕ, ◌+◌, ◌-◌, ◌<◌, ◌≤◌, Bool, true, false, cond, MatchBool, nat_le, refl}
 use Rattle.std.proofs.Common.{sym, ap, subst, arith}
 use Rattle.std.proofs.lemmas.Bool.{leb-true, leb-false}
 use Rattle.std.proofs.lemmas.Bool.Decides.{nat_tests}
-use Rattle.source.specs.Facts.{isPart, Sound, Kept, Taken, Ticked, Driven}
+use Rattle.source.specs.Facts.{is_part, Sound, Kept, Taken, Ticked, Driven}
 use Rattle.source.specs.Sides.{both, beside}
 
 -- by the side on which part k lies
@@ -26,10 +27,10 @@ beside-sound m n f a g b s t =
       within = λ k l. beside-by (λ x y. x ≤ y) m a b f g k l l (λ _. s.within k l) (λ _ _. t.within (k - m) l) (λ _ _. omega arith);
     }
   where
-    left-outside : (k : ℕ) → isPart (both m n) k ≡ false → isPart m k ≡ false
+    left-outside : (k : ℕ) → is_part (both m n) k ≡ false → is_part m k ≡ false
     left-outside k e = let few = s.few in grind (arith, nat_tests)
 
-    right-outside : (k : ℕ) → isPart (both m n) k ≡ false → m < k → k ≤ 1000 → isPart n (k - m) ≡ false
+    right-outside : (k : ℕ) → is_part (both m n) k ≡ false → m < k → k ≤ 1000 → is_part n (k - m) ≡ false
     right-outside k e h i = grind (arith, nat_tests)
 
 -- what is kept on both sides is kept

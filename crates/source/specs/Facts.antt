@@ -4,23 +4,23 @@
 use Rattle.std.specs.Prelude.{◌≡◌, ℕ, ◌+◌, ◌≤◌, Bool, false, cond, ◌&&◌, ◌≢◌, nat_le}
 
 -- k is a part of a source with n parts
-abbrev pub isPart : ℕ → ℕ → Bool
-isPart n k = nat_le 1 k && nat_le k n
+abbrev pub is_part : ℕ → ℕ → Bool
+is_part n k = nat_le 1 k && nat_le k n
 
 -- what f gives, for the only part of a source that has one
 abbrev pub single : (ℕ → ℕ) → ℕ → ℕ → ℕ
-single f k l = cond (isPart 1 k) (f l) 0
+single f k l = cond (is_part 1 k) (f l) 0
 
 -- an offer of u units to part k is taken exactly when k is a part and u is from 1 to its allowance for one tick
 abbrev pub offerable : ℕ → (ℕ → ℕ → ℕ) → ℕ → ℕ → Bool
-offerable n a k u = isPart n k && (nat_le 1 u && nat_le u (a k 1))
+offerable n a k u = is_part n k && (nat_le 1 u && nat_le u (a k 1))
 
 -- with n parts, demand d and allowance a: since an allowance is never above its demand, it too is 0 over no ticks and
 -- for a number that is no part
 pub record Sound (n : ℕ) (d a : ℕ → ℕ → ℕ) : Type 0 where
   pub few : n ≤ 1000
   pub none : (k : ℕ) → d k 0 ≡ 0
-  pub outside : (k l : ℕ) → isPart n k ≡ false → d k l ≡ 0
+  pub outside : (k l : ℕ) → is_part n k ≡ false → d k l ≡ 0
   pub rises : (k l m : ℕ) → l ≤ m → d k l ≤ d k m
   pub small : (k l : ℕ) → l ≤ 1000000 → d k l ≤ 10000000000000
   pub within : (k l : ℕ) → a k l ≤ d k l

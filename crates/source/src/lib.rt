@@ -2,7 +2,7 @@
 #![tactic(auto)]
 
 ghost use Rattle.std.specs.Prelude.{◌≡◌, ℕ, ◌≤◌, true, false, ◌&&◌, if◌then◌else◌, Some, None, nat_le};
-ghost use Rattle.source.specs.Facts.{isPart, offerable, Sound, Kept, Taken, Ticked, Driven};
+ghost use Rattle.source.specs.Facts.{is_part, offerable, Sound, Kept, Taken, Ticked, Driven};
 
 pub mod pair;
 
@@ -29,11 +29,11 @@ pub trait Source {
 
     // The demand of a part over a window, or None if there is no such part or the window is above 1,000,000 ticks.
     fn demand(&self, part: u32, ticks: u32) -> Option<u64>
-        ensures { result ≡ (if isPart (parts self.now) part && nat_le ticks 1000000 then Some (demanded self.now part ticks) else None) };
+        ensures { result ≡ (if is_part (parts self.now) part && nat_le ticks 1000000 then Some (demanded self.now part ticks) else None) };
 
     // The allowance of a part for one tick, or None if there is no such part.
     fn allowance(&self, part: u32) -> Option<u64>
-        ensures { result ≡ (if isPart (parts self.now) part then Some (allowed self.now part 1) else None) };
+        ensures { result ≡ (if is_part (parts self.now) part then Some (allowed self.now part 1) else None) };
 
     ghost sound: { (s : Self) → Sound (parts s) (demanded s) (allowed s) };
 }

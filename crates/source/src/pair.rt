@@ -1,6 +1,6 @@
 // Two sources, or two gates, side by side: again one.
 ghost use Rattle.std.specs.Prelude.{◌≡◌, ℕ, ◌-◌, ◌≤◌, true, false, cond, ◌&&◌, Some, None, MatchBool, nat_le};
-ghost use Rattle.source.specs.Facts.{isPart, Sound, Kept, Taken, Ticked, Driven};
+ghost use Rattle.source.specs.Facts.{is_part, Sound, Kept, Taken, Ticked, Driven};
 ghost use Rattle.source.specs.Sides.{both, beside};
 ghost use Rattle.source.specs.Besides.{beside-sound, beside-taken, beside-driven};
 

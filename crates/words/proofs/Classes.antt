@@ -4,7 +4,7 @@ use Rattle.std.proofs.lemmas.List.{at_drop_more}
 use Rattle.std.proofs.lemmas.Bool.{and_parts, and_right, leb-true, lt-leb}
 use Rattle.words.specs.declared.bytes.Class.{Class}
 use Rattle.words.specs.declared.bytes.Class.TheVariants.{Letter, Digit, Space, Feed, Foreign}
-use Rattle.words.specs.Bytes.{is-letter, is_digit, class_of, known}
+use Rattle.words.specs.Bytes.{is_letter, is_digit, class_of, known}
 
 abbrev by_tests : Bool → Bool → Bool → Bool → Class
 by_tests p q r s = cond p Letter (cond q Digit (cond r Space (cond s Feed Foreign)))
@@ -46,29 +46,29 @@ foreign-not-told false false true s ne = refl
 foreign-not-told false false false true ne = refl
 foreign-not-told false false false false ne = absurd (ne refl)
 
-letter-no-digit : (b : ℕ) → is-letter b ≡ true → is_digit b ≡ false
+letter-no-digit : (b : ℕ) → is_letter b ≡ true → is_digit b ≡ false
 letter-no-digit b e =
     let low : 97 ≤ b = leb-true 97 b (and_parts (leb 97 b) (leb b 122) e).0 in
     and_right (leb 48 b) (leb b 57) (lt-leb b 57 (omega arith))
 
 module _ (b : ℕ) where
-  pub letter-if : class_of b ≡ Letter → is-letter b ≡ true
-  letter-if e = letter-told (is-letter b) (is_digit b) (eqb b 32) (eqb b 10) e
+  pub letter-if : class_of b ≡ Letter → is_letter b ≡ true
+  letter-if e = letter-told (is_letter b) (is_digit b) (eqb b 32) (eqb b 10) e
 
-  pub no-letter-if : (class_of b ≡ Letter → ⊥) → is-letter b ≡ false
-  no-letter-if ne = letter-not-told (is-letter b) (is_digit b) (eqb b 32) (eqb b 10) ne
+  pub no-letter-if : (class_of b ≡ Letter → ⊥) → is_letter b ≡ false
+  no-letter-if ne = letter-not-told (is_letter b) (is_digit b) (eqb b 32) (eqb b 10) ne
 
   pub digit-if : class_of b ≡ Digit → is_digit b ≡ true
-  digit-if e = digit-told (is-letter b) (is_digit b) (eqb b 32) (eqb b 10) e
+  digit-if e = digit-told (is_letter b) (is_digit b) (eqb b 32) (eqb b 10) e
 
   pub no-digit-if : (class_of b ≡ Digit → ⊥) → is_digit b ≡ false
-  no-digit-if ne = digit-not-told (is-letter b) (is_digit b) (eqb b 32) (eqb b 10) (letter-no-digit b) ne
+  no-digit-if ne = digit-not-told (is_letter b) (is_digit b) (eqb b 32) (eqb b 10) (letter-no-digit b) ne
 
   pub unknown-if : class_of b ≡ Foreign → known b ≡ false
-  unknown-if e = foreign-told (is-letter b) (is_digit b) (eqb b 32) (eqb b 10) e
+  unknown-if e = foreign-told (is_letter b) (is_digit b) (eqb b 32) (eqb b 10) e
 
   pub known-if : (class_of b ≡ Foreign → ⊥) → known b ≡ true
-  known-if ne = foreign-not-told (is-letter b) (is_digit b) (eqb b 32) (eqb b 10) ne
+  known-if ne = foreign-not-told (is_letter b) (is_digit b) (eqb b 32) (eqb b 10) ne
 
 -- whether every byte passes a test, where those before i did
 module _ (test : ℕ → Bool) (all : List ℕ → Bool) (step : (c : ℕ) (cs : List ℕ) → all (c ∷ cs) ≡ (test c && all cs)) (xs : List ℕ) (i : ℕ) where

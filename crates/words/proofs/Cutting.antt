@@ -2,7 +2,7 @@
 use Rattle.std.proofs.Common.{◌≡◌, ℕ, zero, suc, ◌+◌, ◌<◌, ◌≤◌, Bool, true, false, cond, not, ◌&&◌, eqb, List, [], ◌∷◌, ◌++◌, length, get_or, take, drop, sym, refl, ap, ◌∙◌, arith}
 use Rattle.std.proofs.lemmas.List.{drop_more, drop_all}
 use Rattle.std.proofs.lemmas.Bool.{eq-eqb, ne_eqb, eqb-true, and_parts, not-true, cond-true, cond-false}
-use Rattle.words.specs.Split.{before, onward, onto, pieces, following, joined, lacks, all-lack, Only-cut}
+use Rattle.words.specs.Split.{before, onward, onto, pieces, following, joined, lacks, all_lack, OnlyCut}
 
 -- the part up to the place of the first s, and what follows
 pub cut_at : (s : ℕ) (xs : List ℕ) (r : ℕ) → r ≤ length xs → ((k : ℕ) → k < r → get_or xs k 0 ≡ s → ⊥) → (r < length xs → get_or xs r 0 ≡ s) → (take r xs ≡ before s xs) × (drop r xs ≡ onward s xs)
@@ -50,15 +50,15 @@ pub pieces-some : (s : ℕ) (xs : List ℕ) → 1 ≤ length (pieces s xs)
 pieces-some s xs = omega (arith, ap length (pieces-first s xs))
 
 module _ (s : ℕ) where
-  onto-lacks : (x : ℕ) (ws : List (List ℕ)) → eqb x s ≡ false → all-lack s ws ≡ true → all-lack s (onto x ws) ≡ true
+  onto-lacks : (x : ℕ) (ws : List (List ℕ)) → eqb x s ≡ false → all_lack s ws ≡ true → all_lack s (onto x ws) ≡ true
   onto-lacks x [] e h = ap (λ b. (not b && true) && true) e
-  onto-lacks x (w ∷ ws) e h = ap (λ b. (not b && lacks s w) && all-lack s ws) e ∙ h
+  onto-lacks x (w ∷ ws) e h = ap (λ b. (not b && lacks s w) && all_lack s ws) e ∙ h
 
-  step-lacks : (x : ℕ) (ws : List (List ℕ)) (b : Bool) → eqb x s ≡ b → all-lack s ws ≡ true → all-lack s (cond b ([] ∷ ws) (onto x ws)) ≡ true
+  step-lacks : (x : ℕ) (ws : List (List ℕ)) (b : Bool) → eqb x s ≡ b → all_lack s ws ≡ true → all_lack s (cond b ([] ∷ ws) (onto x ws)) ≡ true
   step-lacks x ws true e h = h
   step-lacks x ws false e h = onto-lacks x ws e h
 
-  pieces-lack : (xs : List ℕ) → all-lack s (pieces s xs) ≡ true
+  pieces-lack : (xs : List ℕ) → all_lack s (pieces s xs) ≡ true
   pieces-lack [] = refl
   pieces-lack (x ∷ xs) = step-lacks x (pieces s xs) (eqb x s) refl (pieces-lack xs)
 
@@ -92,14 +92,14 @@ module _ (s : ℕ) where
       let parts = and_parts (not (eqb x s)) (lacks s w) h in
       cond-false (eqb x s) ([] ∷ pieces s (w ++ (s ∷ rest))) (onto x (pieces s (w ++ (s ∷ rest)))) (not-true (eqb x s) parts.0) ∙ ap (onto x) (pieces-on w rest parts.1)
 
-  pieces-joined : (ws : List (List ℕ)) → 1 ≤ length ws → all-lack s ws ≡ true → pieces s (joined s ws) ≡ ws
+  pieces-joined : (ws : List (List ℕ)) → 1 ≤ length ws → all_lack s ws ≡ true → pieces s (joined s ws) ≡ ws
   pieces-joined [] some h = absurd (omega arith)
   pieces-joined (w ∷ []) some h = pieces-alone w (and_parts (lacks s w) true h).0
   pieces-joined (w ∷ v ∷ ws) some h =
-      let parts = and_parts (lacks s w) (all-lack s (v ∷ ws)) h in
+      let parts = and_parts (lacks s w) (all_lack s (v ∷ ws)) h in
       pieces-on w (joined s (v ∷ ws)) parts.0 ∙ ap (λ ps. w ∷ ps) (pieces-joined (v ∷ ws) (omega arith) parts.1)
 
-pub only-cut : (s : ℕ) (text : List ℕ) → Only-cut s text
+pub only-cut : (s : ℕ) (text : List ℕ) → OnlyCut s text
 only-cut s text = (
   record { some = pieces-some s text; apart = pieces-lack s text; whole = pieces_whole s text },
   λ ws c. sym (pieces-joined s ws c.some c.apart) ∙ ap (pieces s) c.whole,

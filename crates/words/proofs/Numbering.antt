@@ -5,11 +5,11 @@ use Rattle.std.proofs.lemmas.List.{at_drop_more, at_drop_all}
 use Rattle.std.proofs.lemmas.Str.Parse.{IsNumeralModel, numerals_by_fold}
 use Rattle.std.proofs.lemmas.Fmt.{decimal-digits_value, digits_value-decimal, digits_decimal, decimal_nonempty, first_decimal, decimal_digit}
 use Rattle.words.specs.Bytes.{is_digit}
-use Rattle.words.specs.Numbers.{read-on, all_digits, numeral, plain-front, value_of, Writes, Number-rule}
+use Rattle.words.specs.Numbers.{read_on, all_digits, numeral, plain_front, value_of, Writes, NumberRule}
 use Rattle.words.specs.Split.{lacks}
 
-own : IsNumeralModel (λ ds. all_digits ds ≡ true) (read-on 0)
-own = numerals_by_fold _ (search rules) read-on (search rules)
+own : IsNumeralModel (λ ds. all_digits ds ≡ true) (read_on 0)
+own = numerals_by_fold _ (search rules) read_on (search rules)
 
 -- what a numeral is: digits, at least one, and 0 first only alone
 pub numeral-parts : (w : List ℕ) → numeral w ≡ true → (all_digits w ≡ true) × (0 < length w) × (get_or w 0 0 ≡ 48 → length w ≡ 1)
@@ -24,12 +24,12 @@ numeral-from [] h some first = absurd (omega arith)
 numeral-from (c ∷ []) h some first = (and_parts (is_digit c) true h).0
 numeral-from (c ∷ d ∷ cs) h some first = and_from (not (eqb c 48)) (all_digits (c ∷ d ∷ cs)) (not_from_false (eqb c 48) (ne_eqb c 48 (λ e. omega (arith, first e)))) h
 
-written : (w : List ℕ) (n : ℕ) (b : Bool) → (numeral w && leb (read-on 0 w) 1000000) ≡ b → cond b (Some (read-on 0 w)) None ≡ Some n → Writes w n
+written : (w : List ℕ) (n : ℕ) (b : Bool) → (numeral w && leb (read_on 0 w) 1000000) ≡ b → cond b (Some (read_on 0 w)) None ≡ Some n → Writes w n
 written w n true e h =
-    let same : read-on 0 w ≡ n = cc in
-    let both = and_parts (numeral w) (leb (read-on 0 w) 1000000) e in
+    let same : read_on 0 w ≡ n = cc in
+    let both = and_parts (numeral w) (leb (read_on 0 w) 1000000) e in
     let parts = numeral-parts w both.0 in
-    let small : read-on 0 w ≤ 1000000 = leb-true (read-on 0 w) 1000000 both.1 in (
+    let small : read_on 0 w ≤ 1000000 = leb-true (read_on 0 w) 1000000 both.1 in (
       sym (decimal-digits_value own w parts.0 parts.1 parts.2 (omega arith)) ∙ ap decimal same,
       omega arith,
     )
@@ -47,12 +47,12 @@ decimal-numeral n h = numeral-from (decimal n) (digits_decimal own n (omega arit
 
 pub value-of-decimal : (n : ℕ) → n ≤ 1000000 → value_of (decimal n) ≡ Some n
 value-of-decimal n h =
-    let back : read-on 0 (decimal n) ≡ n = digits_value-decimal own n (omega arith) in
-    cond-true (numeral (decimal n) && leb (read-on 0 (decimal n)) 1000000) (Some (read-on 0 (decimal n))) None (and_from (numeral (decimal n)) (leb (read-on 0 (decimal n)) 1000000) (decimal-numeral n h) (le-leb (read-on 0 (decimal n)) 1000000 (omega arith))) ∙ ap Some back
+    let back : read_on 0 (decimal n) ≡ n = digits_value-decimal own n (omega arith) in
+    cond-true (numeral (decimal n) && leb (read_on 0 (decimal n)) 1000000) (Some (read_on 0 (decimal n))) None (and_from (numeral (decimal n)) (leb (read_on 0 (decimal n)) 1000000) (decimal-numeral n h) (le-leb (read_on 0 (decimal n)) 1000000 (omega arith))) ∙ ap Some back
 
-pub number-rule : (w : List ℕ) → Number-rule w
+pub number-rule : (w : List ℕ) → NumberRule w
 number-rule w = (
-  (λ n e. written w n (numeral w && leb (read-on 0 w) 1000000) refl e),
+  (λ n e. written w n (numeral w && leb (read_on 0 w) 1000000) refl e),
   λ n h. ap value_of h.0 ∙ value-of-decimal n h.1,
 )
 
@@ -67,26 +67,26 @@ pub decimal-lacks-space : (n : ℕ) → n ≤ 1000000 → lacks 32 (decimal n) �
 decimal-lacks-space n h = digits-lack-space (decimal n) (digits_decimal own n (omega arith))
 
 -- more digits never make less
-reads_up : (n : ℕ) (w : List ℕ) → n ≤ read-on n w
+reads_up : (n : ℕ) (w : List ℕ) → n ≤ read_on n w
 reads_up n [] = omega arith
 reads_up n (c ∷ w) = omega (arith, reads_up (10 * n + (c - 48)) w)
 
 -- above a limit, the number so far may be cut down to the limit
-pub capped : (n top : ℕ) (w : List ℕ) → min (read-on (min n top) w) top ≡ min (read-on n w) top
+pub capped : (n top : ℕ) (w : List ℕ) → min (read_on (min n top) w) top ≡ min (read_on n w) top
 capped n top w =
     elim (cases_lt n top) [
-      | inl less ↦ let same : min n top ≡ n = omega arith in ap (λ m. min (read-on m w) top) same
-      | inr more ↦ let same : min n top ≡ top = omega arith in ap (λ m. min (read-on m w) top) same ∙ omega (arith, reads_up n w, reads_up top w)
+      | inl less ↦ let same : min n top ≡ n = omega arith in ap (λ m. min (read_on m w) top) same
+      | inr more ↦ let same : min n top ≡ top = omega arith in ap (λ m. min (read_on m w) top) same ∙ omega (arith, reads_up n w, reads_up top w)
     ]
 
 -- one digit more
-pub value_on : (w : List ℕ) (i n m : ℕ) → i < length w → min (read-on 0 w) 1000001 ≡ min (read-on n (drop i w)) 1000001 → m ≡ min (10 * n + (get_or w i 0 - 48)) 1000001 → min (read-on 0 w) 1000001 ≡ min (read-on m (drop (i + 1) w)) 1000001
+pub value_on : (w : List ℕ) (i n m : ℕ) → i < length w → min (read_on 0 w) 1000001 ≡ min (read_on n (drop i w)) 1000001 → m ≡ min (10 * n + (get_or w i 0 - 48)) 1000001 → min (read_on 0 w) 1000001 ≡ min (read_on m (drop (i + 1) w)) 1000001
 value_on w i n m h e is =
     let next = 10 * n + (get_or w i 0 - 48) in
-    e ∙ ap (λ v. min v 1000001) (at_drop_more (read-on n) w i 0 h) ∙ sym (capped next 1000001 (drop (i + 1) w)) ∙ ap (λ v. min (read-on v (drop (i + 1) w)) 1000001) (sym is)
+    e ∙ ap (λ v. min v 1000001) (at_drop_more (read_on n) w i 0 h) ∙ sym (capped next 1000001 (drop (i + 1) w)) ∙ ap (λ v. min (read_on v (drop (i + 1) w)) 1000001) (sym is)
 
-pub value-end : (w : List ℕ) (i n : ℕ) → length w ≤ i → n ≤ 1000001 → min (read-on 0 w) 1000001 ≡ min (read-on n (drop i w)) 1000001 → n ≡ min (read-on 0 w) 1000001
-value-end w i n h small e = omega (arith, at_drop_all (read-on n) w i h)
+pub value-end : (w : List ℕ) (i n : ℕ) → length w ≤ i → n ≤ 1000001 → min (read_on 0 w) 1000001 ≡ min (read_on n (drop i w)) 1000001 → n ≡ min (read_on 0 w) 1000001
+value-end w i n h small e = omega (arith, at_drop_all (read_on n) w i h)
 
 and-true : (b : Bool) → b ≡ (b && true)
 and-true true = refl
@@ -96,7 +96,7 @@ front_by : (b p q x : Bool) → p ≡ true → q ≡ true → (not b && x) ≡ (
 front_by true p q x e f = sym (ap (λ u. (u && not (true && q)) && x) e ∙ ap (λ u. (true && not (true && u)) && x) f)
 front_by false p q x e f = sym (ap (λ u. (u && not (false && q)) && x) e)
 
-numeral-by : (w : List ℕ) → numeral w ≡ (plain-front w && all_digits w)
+numeral-by : (w : List ℕ) → numeral w ≡ (plain_front w && all_digits w)
 numeral-by [] = refl
 numeral-by (c ∷ []) =
     elim (eqb c 48) as (λ b. is_digit c ≡ (not (b && false) && (is_digit c && true))) [
@@ -108,29 +108,29 @@ numeral-by (c ∷ d ∷ cs) = front_by (eqb c 48) (ltb 0 (length (c ∷ d ∷ cs
 -- the value of a word, by its front and its digits, of which the number is known only up to one above the limit
 module _ (w : List ℕ) where
   abbrev reading : Option ℕ
-  reading = cond (all_digits w) (Some (min (read-on 0 w) 1000001)) None
+  reading = cond (all_digits w) (Some (min (read_on 0 w) 1000001)) None
 
-  pub no_front : plain-front w ≡ false → None ≡ value_of w
-  no_front e = sym (cond-false (numeral w && leb (read-on 0 w) 1000000) (Some (read-on 0 w)) None (and_left (numeral w) (leb (read-on 0 w) 1000000) (numeral-by w ∙ and_left (plain-front w) (all_digits w) e)))
+  pub no_front : plain_front w ≡ false → None ≡ value_of w
+  no_front e = sym (cond-false (numeral w && leb (read_on 0 w) 1000000) (Some (read_on 0 w)) None (and_left (numeral w) (leb (read_on 0 w) 1000000) (numeral-by w ∙ and_left (plain_front w) (all_digits w) e)))
 
-  no-digits-by : (b : Bool) → all_digits w ≡ b → None ≡ cond b (Some (min (read-on 0 w) 1000001)) None → None ≡ value_of w
+  no-digits-by : (b : Bool) → all_digits w ≡ b → None ≡ cond b (Some (min (read_on 0 w) 1000001)) None → None ≡ value_of w
   no-digits-by true e h = let z : ◌≡◌ {A = ℕ} 0 1 = cc in absurd (omega arith)
-  no-digits-by false e h = sym (cond-false (numeral w && leb (read-on 0 w) 1000000) (Some (read-on 0 w)) None (and_left (numeral w) (leb (read-on 0 w) 1000000) (numeral-by w ∙ and_right (plain-front w) (all_digits w) e)))
+  no-digits-by false e h = sym (cond-false (numeral w && leb (read_on 0 w) 1000000) (Some (read_on 0 w)) None (and_left (numeral w) (leb (read_on 0 w) 1000000) (numeral-by w ∙ and_right (plain_front w) (all_digits w) e)))
 
   pub no-digits : None ≡ reading → None ≡ value_of w
   no-digits h = no-digits-by (all_digits w) refl h
 
-  some-digits-by : (v : ℕ) (b : Bool) → all_digits w ≡ b → Some v ≡ cond b (Some (min (read-on 0 w) 1000001)) None → (all_digits w ≡ true) × (v ≡ min (read-on 0 w) 1000001)
+  some-digits-by : (v : ℕ) (b : Bool) → all_digits w ≡ b → Some v ≡ cond b (Some (min (read_on 0 w) 1000001)) None → (all_digits w ≡ true) × (v ≡ min (read_on 0 w) 1000001)
   some-digits-by v true e h = (e, cc)
   some-digits-by v false e h = let z : ◌≡◌ {A = ℕ} 0 1 = cc in absurd (omega arith)
 
   pub above-limit : (v : ℕ) → Some v ≡ reading → 1000000 < v → None ≡ value_of w
   above-limit v h more =
       let told = some-digits-by v (all_digits w) refl h in
-      sym (cond-false (numeral w && leb (read-on 0 w) 1000000) (Some (read-on 0 w)) None (and_right (numeral w) (leb (read-on 0 w) 1000000) (lt-leb (read-on 0 w) 1000000 (omega (arith, told.1)))))
+      sym (cond-false (numeral w && leb (read_on 0 w) 1000000) (Some (read_on 0 w)) None (and_right (numeral w) (leb (read_on 0 w) 1000000) (lt-leb (read_on 0 w) 1000000 (omega (arith, told.1)))))
 
-  pub within-limit : (v : ℕ) → plain-front w ≡ true → Some v ≡ reading → v ≤ 1000000 → Some v ≡ value_of w
+  pub within-limit : (v : ℕ) → plain_front w ≡ true → Some v ≡ reading → v ≤ 1000000 → Some v ≡ value_of w
   within-limit v front h small =
       let told = some-digits-by v (all_digits w) refl h in
-      let same : v ≡ read-on 0 w = omega (arith, told.1) in
-      ap Some same ∙ sym (cond-true (numeral w && leb (read-on 0 w) 1000000) (Some (read-on 0 w)) None (and_from (numeral w) (leb (read-on 0 w) 1000000) (numeral-by w ∙ and_from (plain-front w) (all_digits w) front told.0) (le-leb (read-on 0 w) 1000000 (omega arith))))
+      let same : v ≡ read_on 0 w = omega (arith, told.1) in
+      ap Some same ∙ sym (cond-true (numeral w && leb (read_on 0 w) 1000000) (Some (read_on 0 w)) None (and_from (numeral w) (leb (read_on 0 w) 1000000) (numeral-by w ∙ and_from (plain_front w) (all_digits w) front told.0) (le-leb (read_on 0 w) 1000000 (omega arith))))

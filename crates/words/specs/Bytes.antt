@@ -3,17 +3,17 @@ use Rattle.std.specs.Prelude.{ℕ, Bool, true, cond, ◌&&◌, ◌||◌, List, [
 use Rattle.words.specs.declared.bytes.Class.{Class}
 use Rattle.words.specs.declared.bytes.Class.TheVariants.{Letter, Digit, Space, Feed, Foreign}
 
-abbrev pub is-letter : ℕ → Bool
-is-letter b = nat_le 97 b && nat_le b 122
+abbrev pub is_letter : ℕ → Bool
+is_letter b = nat_le 97 b && nat_le b 122
 
 abbrev pub is_digit : ℕ → Bool
 is_digit b = nat_le 48 b && nat_le b 57
 
 abbrev pub class_of : ℕ → Class
-class_of b = cond (is-letter b) Letter (cond (is_digit b) Digit (cond (b == 32) Space (cond (b == 10) Feed Foreign)))
+class_of b = cond (is_letter b) Letter (cond (is_digit b) Digit (cond (b == 32) Space (cond (b == 10) Feed Foreign)))
 
 abbrev pub known : ℕ → Bool
-known b = is-letter b || (is_digit b || (b == 32 || b == 10))
+known b = is_letter b || (is_digit b || (b == 32 || b == 10))
 
 -- every byte is known
 abbrev pub clean : List ℕ → Bool

@@ -35,16 +35,16 @@ abbrev pub lacks : ℕ → List ℕ → Bool
 lacks s [] = true
 lacks s (x ∷ xs) = not (x == s) && lacks s xs
 
-abbrev pub all-lack : ℕ → List (List ℕ) → Bool
-all-lack s [] = true
-all-lack s (w ∷ ws) = lacks s w && all-lack s ws
+abbrev pub all_lack : ℕ → List (List ℕ) → Bool
+all_lack s [] = true
+all_lack s (w ∷ ws) = lacks s w && all_lack s ws
 
 -- at least one part, none of which has an s, that give the text when put together with one s between two of them
 pub record Cut (s : ℕ) (text : List ℕ) (ws : List (List ℕ)) : Type 0 where
   pub some : 1 ≤ length ws
-  pub apart : all-lack s ws ≡ true
+  pub apart : all_lack s ws ≡ true
   pub whole : joined s ws ≡ text
 
 -- the pieces are such a cut of the text, and there is no other
-abbrev pub Only-cut : ℕ → List ℕ → Type 0
-Only-cut s text = Cut s text (pieces s text) × ((ws : List (List ℕ)) → Cut s text ws → ws ≡ pieces s text)
+abbrev pub OnlyCut : ℕ → List ℕ → Type 0
+OnlyCut s text = Cut s text (pieces s text) × ((ws : List (List ℕ)) → Cut s text ws → ws ≡ pieces s text)

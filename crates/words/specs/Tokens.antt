@@ -4,7 +4,7 @@ use Rattle.refusal.specs.declared.Fault.{Fault}
 use Rattle.refusal.specs.declared.Fault.TheVariants.{ForeignByte, BadWord}
 use Rattle.words.specs.declared.token.Token.{Token}
 use Rattle.words.specs.declared.token.Token.TheVariants.{Keyword, Number}
-use Rattle.words.specs.Bytes.{is-letter, clean}
+use Rattle.words.specs.Bytes.{is_letter, clean}
 use Rattle.words.specs.Numbers.{value_of}
 use Rattle.words.specs.Split.{before, onward, pieces}
 
@@ -12,9 +12,9 @@ pub data Word : Type 0 where
   letters : List ℕ → Word
   number : ℕ → Word
 
-abbrev pub all-letters : List ℕ → Bool
-all-letters [] = true
-all-letters (c ∷ cs) = is-letter c && all-letters cs
+abbrev pub all_letters : List ℕ → Bool
+all_letters [] = true
+all_letters (c ∷ cs) = is_letter c && all_letters cs
 
 abbrev pub as_number : Option ℕ → Option Word
 as_number None = None
@@ -23,15 +23,15 @@ as_number (Some n) = Some (number n)
 -- what a spelling says, if it is a word
 abbrev pub word_of : List ℕ → Option Word
 word_of [] = None
-word_of (c ∷ cs) = cond (all-letters (c ∷ cs)) (Some (letters (c ∷ cs))) (as_number (value_of (c ∷ cs)))
+word_of (c ∷ cs) = cond (all_letters (c ∷ cs)) (Some (letters (c ∷ cs))) (as_number (value_of (c ∷ cs)))
 
-abbrev pub words-good : List (List ℕ) → Bool
-words-good [] = true
-words-good (w ∷ ws) = is_some (word_of w) && words-good ws
+abbrev pub words_good : List (List ℕ) → Bool
+words_good [] = true
+words_good (w ∷ ws) = is_some (word_of w) && words_good ws
 
 -- what is wrong with a line, of which the line feed is left out
-abbrev pub line-fault : List ℕ → Option Fault
-line-fault line = cond (clean line) (cond (words-good (pieces 32 line)) None (Some BadWord)) (Some ForeignByte)
+abbrev pub line_fault : List ℕ → Option Fault
+line_fault line = cond (clean line) (cond (words_good (pieces 32 line)) None (Some BadWord)) (Some ForeignByte)
 
 -- what a token tells: its spelling, the number of its line, the place of its first byte in that line, and what it says
 pub record Told : Type 0 where

@@ -1,7 +1,7 @@
 // The bytes of a sheet.
 ghost use Rattle.std.specs.Prelude.{◌≡◌};
 ghost use Rattle.words.specs.Bytes.{class_of, clean};
-ghost use Rattle.words.specs.Tokens.{all-letters};
+ghost use Rattle.words.specs.Tokens.{all_letters};
 
 #[derive(Clone, Copy, PartialEq, Eq, Debug)]
 pub enum Class {
@@ -38,7 +38,7 @@ pub(crate) fn is_clean(bytes: &[u8]) -> bool
 
 // Whether every byte is a letter.
 pub(crate) fn all_letters(bytes: &[u8]) -> bool
-    ensures { result ≡ all-letters bytes.now }
+    ensures { result ≡ all_letters bytes.now }
 {
     for byte in bytes {
         if class_of(*byte) != Class::Letter {

@@ -1,6 +1,6 @@
 // Numbers in decimal.
 ghost use Rattle.std.specs.Prelude.{◌≡◌, min, if◌then◌else◌, Some, None};
-ghost use Rattle.words.specs.Numbers.{read-on, all_digits, plain-front, value_of, Number-rule};
+ghost use Rattle.words.specs.Numbers.{read_on, all_digits, plain_front, value_of, NumberRule};
 
 use crate::bytes::{Class, class_of};
 
@@ -10,7 +10,7 @@ const ABOVE: u32 = LIMIT + 1;
 
 // What digits write, or one above the limit if they write more. Nothing if there is another byte.
 fn digits_value(digits: &[u8]) -> Option<u32>
-    ensures { result ≡ (if all_digits digits.now then Some (min (read-on 0 digits.now) 1000001) else None) }
+    ensures { result ≡ (if all_digits digits.now then Some (min (read_on 0 digits.now) 1000001) else None) }
 {
     let mut value: u32 = 0;
     for digit in digits {
@@ -24,7 +24,7 @@ fn digits_value(digits: &[u8]) -> Option<u32>
 
 // Whether there is a byte, and no 0 before another.
 fn has_plain_front(word: &[u8]) -> bool
-    ensures { result ≡ plain-front word.now }
+    ensures { result ≡ plain_front word.now }
 {
     !word.is_empty() && !(word[0] == b'0' && word.len() > 1)
 }
@@ -32,7 +32,7 @@ fn has_plain_front(word: &[u8]) -> bool
 // The number that a word writes, if it is one: digits, with no 0 before another digit, of at most 1,000,000.
 pub fn number_of(word: &[u8]) -> Option<u32>
     ensures value { result ≡ value_of word.now }
-    ensures rule { Number-rule word.now }
+    ensures rule { NumberRule word.now }
 {
     if !has_plain_front(word) {
         return None;

@@ -1,8 +1,8 @@
 // The words of a line.
 ghost use Rattle.std.specs.Prelude.{◌≡◌, Some, None, MatchResult};
 ghost use Rattle.refusal.specs.declared.Fault.TheVariants.{BadWord};
-ghost use Rattle.words.specs.Split.{before, Only-cut};
-ghost use Rattle.words.specs.Tokens.{word_of, line-fault, told, Taken};
+ghost use Rattle.words.specs.Split.{before, OnlyCut};
+ghost use Rattle.words.specs.Tokens.{word_of, line_fault, told, Taken};
 
 use crate::bytes::{all_letters, is_clean};
 use crate::number::number_of;
@@ -61,8 +61,8 @@ pub fn next_token<'a>(line: Line<'a>, rest: &'a [u8]) -> Result<(Token<'a>, &'a 
 
 // What is wrong with a line: a byte that no sheet has or, if there is none, words that are none.
 pub fn check_line(line: Line) -> Result<(), Fault>
-    ensures fault { MatchResult result (λ _. line-fault line.entry.bytes.now ≡ None) (λ f. line-fault line.entry.bytes.now ≡ Some f) }
-    ensures words { Only-cut 32 line.entry.bytes.now }
+    ensures fault { MatchResult result (λ _. line_fault line.entry.bytes.now ≡ None) (λ f. line_fault line.entry.bytes.now ≡ Some f) }
+    ensures words { OnlyCut 32 line.entry.bytes.now }
 {
     if !is_clean(line.bytes) {
         return Err(Fault::ForeignByte);

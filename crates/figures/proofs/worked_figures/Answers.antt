@@ -8,31 +8,31 @@ use Rattle.plan.specs.declared.verdict.Verdict.TheVariants.{Accepted, Late}
 use Rattle.paced.specs.Makes.{unused}
 use Rattle.schedule.specs.Phases.{none}
 use Rattle.sheet.specs.Drafts.{Plan}
-use Rattle.sheet.specs.Marking.{bank-demand}
-use Rattle.figures.specs.Worked.{bank, jittery, task-limits, task-rows}
+use Rattle.sheet.specs.Marking.{bank_demand}
+use Rattle.figures.specs.Worked.{bank, jittery, task_limits, task_rows}
 use Rattle.figures.proofs.Below.{each-too-small}
 use Rattle.figures.proofs.worked_figures.Goals as goal
 
-bounded : (i : ℕ) → i < 2 → Bounded bank (both 1 1) (task-limits 15) 2 task-rows i (get_or (11 ∷ 12 ∷ []) i 0)
-bounded zero h = (record { some = lit≤ tt; holds = lit≤ tt; smaller = each-too-small (needed bank (both 1 1) (task-limits 15) 2 task-rows 0) 11 refl }, lit≤ tt)
-bounded (suc zero) h = (record { some = lit≤ tt; holds = lit≤ tt; smaller = each-too-small (needed bank (both 1 1) (task-limits 15) 2 task-rows 1) 12 refl }, lit≤ tt)
+bounded : (i : ℕ) → i < 2 → Bounded bank (both 1 1) (task_limits 15) 2 task_rows i (get_or (11 ∷ 12 ∷ []) i 0)
+bounded zero h = (record { some = lit≤ tt; holds = lit≤ tt; smaller = each-too-small (needed bank (both 1 1) (task_limits 15) 2 task_rows 0) 11 refl }, lit≤ tt)
+bounded (suc zero) h = (record { some = lit≤ tt; holds = lit≤ tt; smaller = each-too-small (needed bank (both 1 1) (task_limits 15) 2 task_rows 1) 12 refl }, lit≤ tt)
 bounded (suc (suc i)) h = absurd (omega arith)
 
-unbounded : (i : ℕ) → suc i ≡ 1 → Unbounded bank (both 1 1) (task-limits 10) 2 task-rows i
-unbounded zero e l h k = each-too-small (needed bank (both 1 1) (task-limits 10) 2 task-rows 0) 11 refl l h (omega arith)
+unbounded : (i : ℕ) → suc i ≡ 1 → Unbounded bank (both 1 1) (task_limits 10) 2 task_rows i
+unbounded zero e l h k = each-too-small (needed bank (both 1 1) (task_limits 10) 2 task_rows 0) 11 refl l h (omega arith)
 unbounded (suc i) e l h k = absurd (omega arith)
 
 -- the plan that is read from the sample sheet, with deadline d for its first task
 abbrev read-plan : ℕ → Plan
-read-plan d = record { cycle = 12; pairs = 2; slots = record { offset = 0; length = 3 } ∷ record { offset = 5; length = 2 } ∷ replicate 62 none; phase = 0; taken = false; irqs = 1; irq-rows = jittery ∷ replicate 15 unused; tasks = 2; task-rows = task-rows ++ replicate 14 unused; limits = task-limits d ++ replicate 14 unlimited }
+read-plan d = record { cycle = 12; pairs = 2; slots = record { offset = 0; length = 3 } ∷ record { offset = 5; length = 2 } ∷ replicate 62 none; phase = 0; taken = false; irqs = 1; irq_rows = jittery ∷ replicate 15 unused; tasks = 2; task_rows = task_rows ++ replicate 14 unused; limits = task_limits d ++ replicate 14 unlimited }
 
-bounded-read : (i : ℕ) → i < 2 → Bounded (bank-demand (read-plan 15)) 2 (read-plan 15).limits 2 (read-plan 15).task-rows i (get_or (11 ∷ 12 ∷ []) i 0)
-bounded-read zero h = (record { some = lit≤ tt; holds = lit≤ tt; smaller = each-too-small (needed (bank-demand (read-plan 15)) 2 (read-plan 15).limits 2 (read-plan 15).task-rows 0) 11 refl }, lit≤ tt)
-bounded-read (suc zero) h = (record { some = lit≤ tt; holds = lit≤ tt; smaller = each-too-small (needed (bank-demand (read-plan 15)) 2 (read-plan 15).limits 2 (read-plan 15).task-rows 1) 12 refl }, lit≤ tt)
+bounded-read : (i : ℕ) → i < 2 → Bounded (bank_demand (read-plan 15)) 2 (read-plan 15).limits 2 (read-plan 15).task_rows i (get_or (11 ∷ 12 ∷ []) i 0)
+bounded-read zero h = (record { some = lit≤ tt; holds = lit≤ tt; smaller = each-too-small (needed (bank_demand (read-plan 15)) 2 (read-plan 15).limits 2 (read-plan 15).task_rows 0) 11 refl }, lit≤ tt)
+bounded-read (suc zero) h = (record { some = lit≤ tt; holds = lit≤ tt; smaller = each-too-small (needed (bank_demand (read-plan 15)) 2 (read-plan 15).limits 2 (read-plan 15).task_rows 1) 12 refl }, lit≤ tt)
 bounded-read (suc (suc i)) h = absurd (omega arith)
 
-unbounded-read : (i : ℕ) → suc i ≡ 1 → Unbounded (bank-demand (read-plan 10)) 2 (read-plan 10).limits 2 (read-plan 10).task-rows i
-unbounded-read zero e l h k = each-too-small (needed (bank-demand (read-plan 10)) 2 (read-plan 10).limits 2 (read-plan 10).task-rows 0) 11 refl l h (omega arith)
+unbounded-read : (i : ℕ) → suc i ≡ 1 → Unbounded (bank_demand (read-plan 10)) 2 (read-plan 10).limits 2 (read-plan 10).task_rows i
+unbounded-read zero e l h k = each-too-small (needed (bank_demand (read-plan 10)) 2 (read-plan 10).limits 2 (read-plan 10).task_rows 0) 11 refl l h (omega arith)
 unbounded-read (suc i) e l h k = absurd (omega arith)
 
 pub returns : goal.returns
@@ -40,27 +40,27 @@ unfolding digits
 returns c = record {
   groups = refl;
   figures = record {
-    early-5 = refl;
-    early-6 = refl;
-    early-12 = refl;
-    early-13 = refl;
-    late-2 = refl;
-    late-3 = refl;
-    jittery-8 = refl;
-    jittery-9 = refl;
-    jittery-18 = refl;
-    jittery-19 = refl;
-    uneven-5 = refl;
-    uneven-10 = refl;
-    uneven-30 = refl;
-    at-start = refl;
-    after-7 = refl;
-    after-8 = refl;
+    early_5 = refl;
+    early_6 = refl;
+    early_12 = refl;
+    early_13 = refl;
+    late_2 = refl;
+    late_3 = refl;
+    jittery_8 = refl;
+    jittery_9 = refl;
+    jittery_18 = refl;
+    jittery_19 = refl;
+    uneven_5 = refl;
+    uneven_10 = refl;
+    uneven_30 = refl;
+    at_start = refl;
+    after_7 = refl;
+    after_8 = refl;
     sample = (refl, lit≤ tt, lit≤ tt, bounded);
-    too-late = (lit≤ tt, lit≤ tt, lit≤ tt, (λ i h. absurd (omega arith)), λ i e. unbounded i (omega arith));
+    too_late = (lit≤ tt, lit≤ tt, lit≤ tt, (λ i h. absurd (omega arith)), λ i e. unbounded i (omega arith));
     listing = (Accepted 2, 11 ∷ 12 ∷ [], (refl, lit≤ tt, lit≤ tt, bounded-read), refl);
     refusal = (Late 1, [], (lit≤ tt, lit≤ tt, lit≤ tt, (λ i h. absurd (omega arith)), λ i e. unbounded-read i (omega arith)), refl);
-    load-schedule = refl;
-    load-task = refl;
+    load_schedule = refl;
+    load_task = refl;
   };
 }

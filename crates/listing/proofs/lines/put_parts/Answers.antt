@@ -1,5 +1,5 @@
 use Rattle.std.proofs.Common.{◌+◌, length, get_or, sym, arith}
-use Rattle.listing.specs.Texts.{part-line, part-lines}
+use Rattle.listing.specs.Texts.{part_line, part_lines}
 use Rattle.listing.proofs.Placing.{put-none, put_next, end-next, room_for, end-within}
 use Rattle.listing.proofs.Sizes.{part-short, part-lines-more}
 use Rattle.listing.proofs.lines.put_parts.Goals as goal
@@ -12,7 +12,7 @@ put_part-end-requires c =
     let xs = c.args.marks.now.parts in
     let l = c.loop-place in
     let n = l.place in
-    room_for l.end (length (part-line (n + 1) (get_or xs n 0))) 42 (length l.buffer) (omega arith) (part-short (n + 1) (get_or xs n 0) (omega arith) (omega arith))
+    room_for l.end (length (part_line (n + 1) (get_or xs n 0))) 42 (length l.buffer) (omega arith) (part-short (n + 1) (get_or xs n 0) (omega arith) (omega arith))
 
 pub loop-place-preserved : goal.loop-place-preserved
 loop-place-preserved c =
@@ -22,8 +22,8 @@ loop-place-preserved c =
     let l = c.loop-place in
     let p = c.put_part-end in
     let n = l.place in
-    let line = part-line (n + 1) (get_or xs n 0) in (
-      put_next b l.buffer p.new.buffer (part-lines n xs) line (part-lines (n + 1) xs) at l.end (omega arith) l.invariant.0 l.invariant.1 p.ensures.text (part-lines-more n xs),
-      end-next (part-lines n xs) line (part-lines (n + 1) xs) at l.end p.result l.invariant.1 p.ensures.end (part-lines-more n xs),
+    let line = part_line (n + 1) (get_or xs n 0) in (
+      put_next b l.buffer p.new.buffer (part_lines n xs) line (part_lines (n + 1) xs) at l.end (omega arith) l.invariant.0 l.invariant.1 p.ensures.text (part-lines-more n xs),
+      end-next (part_lines n xs) line (part_lines (n + 1) xs) at l.end p.result l.invariant.1 p.ensures.end (part-lines-more n xs),
       end-within l.end p.result (length line) at 42 n p.ensures.end (part-short (n + 1) (get_or xs n 0) (omega arith) (omega arith)) l.invariant.2,
     )

@@ -1,5 +1,5 @@
 use Rattle.std.proofs.Common.{◌≡◌, ◌+◌, ap, ◌∙◌}
-use Rattle.paced.specs.Tables.{row_at, demandsOf}
+use Rattle.paced.specs.Tables.{row_at, demands_of}
 use Rattle.plan.specs.Needs.{total}
 use Rattle.plan.proofs.search.need_of.Goals as goal
 
@@ -9,5 +9,5 @@ returns g c =
     let l = c.args.ticks in
     let own = c.own_need-own.ensures.value in
     let above : c.total_of.result ≡ total d (g.S.Source.parts c.args.bank.now) l = c.total_of.ensures.value ∙ ap (λ n. total d n l) c.count-parts.ensures in
-    let earlier : c.total_of-2.result ≡ total (demandsOf c.args.tasks.now.parts.count (row_at c.args.tasks.now.parts.rows)) c.args.place l = c.total_of-2.ensures.value ∙ ap (λ p. total (demandsOf p.count (row_at p.rows)) c.args.place l) c.parts.ensures in
+    let earlier : c.total_of-2.result ≡ total (demands_of c.args.tasks.now.parts.count (row_at c.args.tasks.now.parts.rows)) c.args.place l = c.total_of-2.ensures.value ∙ ap (λ p. total (demands_of p.count (row_at p.rows)) c.args.place l) c.parts.ensures in
     λ i. own i + above i + earlier i

@@ -1,8 +1,8 @@
 use Rattle.std.proofs.Common.{◌≡◌, ◌+◌, ◌-◌, max, length, ap, ◌∙◌, arith}
 use Rattle.cycles.specs.Round.{top}
 use Rattle.cycles.proofs.Rounds.{sum-on, top-on}
-use Rattle.schedule.specs.Phases.{length-of}
-use Rattle.schedule.specs.Twice.{met-from}
+use Rattle.schedule.specs.Phases.{length_of}
+use Rattle.schedule.specs.Twice.{met_from}
 use Rattle.schedule.proofs.Slots.{sum-small, window-is, pairs-are-worst}
 use Rattle.schedule.proofs.slot.largest_met.Goals as goal
 
@@ -22,8 +22,8 @@ loop-start-preserved c =
     let slots = c.args.slots.now in
     let i = c.loop-start.start in
     let met = window-is c.args.cycle c.args.slots.now c.requires.rising c.requires.below c.args.ticks c.loop-start.start c.moved_on-reach.result.end c.loop-start-test.true c.requires.ticks c.moved_on-reach.ensures.end c.moved_on-reach.ensures.before c.moved_on-reach.ensures.after in (
-      omega (arith, c.loop-start.invariant.0, sum-on (length-of slots) i),
-      omega (arith, largest-is c, c.loop-start.invariant.0, c.loop-start.invariant.1, c.moved_on-reach.ensures.sum, top-on (met-from c.args.cycle (length slots) slots c.args.ticks) i),
+      omega (arith, c.loop-start.invariant.0, sum-on (length_of slots) i),
+      omega (arith, largest-is c, c.loop-start.invariant.0, c.loop-start.invariant.1, c.moved_on-reach.ensures.sum, top-on (met_from c.args.cycle (length slots) slots c.args.ticks) i),
       omega (arith, c.moved_on-reach.ensures.end),
       c.moved_on-reach.ensures.sum,
       λ h j l. omega (arith, c.moved_on-reach.ensures.before j l, c.requires.rising i (i + 1) (omega arith) h),
@@ -33,4 +33,4 @@ pub returns : goal.returns
 returns c =
     let slots = c.args.slots.now in
     let end : c.loop-start.start ≡ length slots = omega arith in
-    c.loop-start.invariant.1 ∙ ap (top (met-from c.args.cycle (length slots) slots c.args.ticks)) end ∙ pairs-are-worst c.args.cycle slots c.requires.rising c.requires.below c.args.ticks (omega arith)
+    c.loop-start.invariant.1 ∙ ap (top (met_from c.args.cycle (length slots) slots c.args.ticks)) end ∙ pairs-are-worst c.args.cycle slots c.requires.rising c.requires.below c.args.ticks (omega arith)

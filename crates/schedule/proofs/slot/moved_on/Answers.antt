@@ -1,6 +1,6 @@
 use Rattle.std.proofs.Common.{◌<◌, arith, below_more}
 use Rattle.cycles.proofs.Rounds.{sum-on}
-use Rattle.schedule.specs.Twice.{offset-twice, units-twice}
+use Rattle.schedule.specs.Twice.{offset_twice, units_twice}
 use Rattle.schedule.proofs.Slots.{twice-small, sum-twice-small}
 use Rattle.schedule.proofs.slot.moved_on.Goals as goal
 
@@ -15,6 +15,6 @@ loop-reach-preserved c =
     let xs = c.args.slots.now in
     let e = c.loop-reach.reach.end in (
       omega arith,
-      omega (arith, c.loop-reach.invariant.1, c.slot_at-slot.ensures.length, sum-on (units-twice xs) e),
-      below_more (λ j. offset-twice xs c.args.cycle j < c.args.until) e c.loop-reach.invariant.2 (omega (arith, c.slot_at-slot.ensures.offset)),
+      omega (arith, c.loop-reach.invariant.1, c.slot_at-slot.ensures.length, sum-on (units_twice xs) e),
+      below_more (λ j. offset_twice xs c.args.cycle j < c.args.until) e c.loop-reach.invariant.2 (omega (arith, c.slot_at-slot.ensures.offset)),
     )

@@ -1,6 +1,6 @@
 use Rattle.std.proofs.Common.{◌≡◌, ◌-◌, Ok, Err, ap, ◌∙◌}
 use Rattle.refusal.specs.Table.{told}
-use Rattle.plan.specs.Judged.{outcome-of}
+use Rattle.plan.specs.Judged.{outcome_of}
 use Rattle.sheet.specs.Marking.{JudgedPlan}
 use Rattle.sheet.specs.Reading.{Sheet}
 use Rattle.sheet.specs.Views.{view}
@@ -15,7 +15,7 @@ returns-in-Err c =
     let v = c.judge-judged.result.verdict in
     let bounds = c.judge-judged.result.bounds in
     let e = c.in-Err.refusal in
-    let o : Err e ≡ outcome-of v = c.in-Err.ensures ∙ ap outcome-of c.verdict.ensures in
+    let o : Err e ≡ outcome_of v = c.in-Err.ensures ∙ ap outcome_of c.verdict.ensures in
     let line : c.saturating_sub.result ≡ s.lines - (s.plan.tasks - e.task) = c.saturating_sub.ensures ∙ ap (λ k. s.lines - k) (c.saturating_sub-below.ensures ∙ ap (λ k. k - e.task) c.count-count.ensures) in (
       v,
       bounds,
@@ -30,7 +30,7 @@ returns c =
     let q = c.with_tasks.result in
     let j = c.judge-judged.result in
     let right : JudgedPlan (view d) j.verdict j.bounds = same-judged q.bank.right d.schedule q.bank.left d.rack q.tasks d.tasks j.verdict j.bounds (ap (λ b. b.right) c.with_tasks.ensures.bank ∙ c.new-bank.ensures.right) (ap (λ b. b.left) c.with_tasks.ensures.bank ∙ c.new-bank.ensures.left) c.with_tasks.ensures.tasks c.judge-judged.ensures.judged in
-    let o : Ok c.in_default.field-0 ≡ outcome-of j.verdict = c.in_default.ensures ∙ ap outcome-of c.verdict.ensures in (
+    let o : Ok c.in_default.field-0 ≡ outcome_of j.verdict = c.in_default.ensures ∙ ap outcome_of c.verdict.ensures in (
       j.verdict,
       j.bounds,
       right,

@@ -1,6 +1,6 @@
 use Rattle.std.proofs.Common.{◌≡◌, ℕ, ◌+◌, ◌<◌, get_or, ap, ◌∙◌, subst, arith}
 use Rattle.std.proofs.lemmas.Bool.{lt-ltb}
-use Rattle.sheet.specs.Marking.{part-load}
+use Rattle.sheet.specs.Marking.{part_load}
 use Rattle.sheet.specs.Views.{view}
 use Rattle.sheet.proofs.Telling.{load-asked, schedule-load, load-more}
 use Rattle.sheet.proofs.marking.part_marks.Goals as goal
@@ -26,7 +26,7 @@ returns c =
     let n = c.loop-place.place in
     let end : n ≡ p.irqs = omega (arith, c.count-place-end.ensures) in
     let same : marks.part_count ≡ p.irqs = c.loop-place.invariant.0 ∙ end in
-    let so_far : (k : ℕ) → k < p.irqs → get_or marks.parts k 0 ≡ part-load p k = subst (λ m. (k : ℕ) → k < m → get_or marks.parts k 0 ≡ part-load p k) end c.loop-place.invariant.1 in
+    let so_far : (k : ℕ) → k < p.irqs → get_or marks.parts k 0 ≡ part_load p k = subst (λ m. (k : ℕ) → k < m → get_or marks.parts k 0 ≡ part_load p k) end c.loop-place.invariant.1 in
     let taken = c.add_part-2.ensures.added (c.add_part-2.ensures.answer ∙ lt-ltb marks.part_count 9 (omega (arith, c.args.draft.now.rack.few))) in
     record {
       count = taken.1 ∙ ap (λ k. k + 1) same;

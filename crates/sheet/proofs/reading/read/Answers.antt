@@ -3,7 +3,7 @@ use Rattle.std.proofs.lemmas.Result.{err_from_is_err_and}
 use Rattle.std.proofs.lemmas.Bool.{eqb-true, eqb-false}
 use Rattle.std.specs.Option.{option_map}
 use Rattle.words.specs.Split.{pieces}
-use Rattle.sheet.specs.Reading.{ended, and_then, read-on}
+use Rattle.sheet.specs.Reading.{ended, and_then, read_on}
 use Rattle.sheet.specs.Views.{view}
 use Rattle.sheet.proofs.Lining.{short-enough, line_first, line-open, at-end}
 use Rattle.sheet.proofs.reading.read.Goals as goal
@@ -30,7 +30,7 @@ returns-in_err-step c =
     short-enough c.args.sheet.now c.if-sheet-gt-LONGEST_SHEET.false
     ∙ sym c.loop-rest.invariant.1
     ∙ line_first c.loop-rest.lines so_far rest c.in-Some.bytes.now after line.0 line.1
-    ∙ ap (λ r. and_then r (λ q. read-on (c.loop-rest.lines + 1) (Some q) (pieces 10 after))) c.in_err-step.ensures
+    ∙ ap (λ r. and_then r (λ q. read_on (c.loop-rest.lines + 1) (Some q) (pieces 10 after))) c.in_err-step.ensures
     )
 
 pub returns-in-Some-draft : goal.returns-in-Some-draft
@@ -56,7 +56,7 @@ loop-rest-preserved c =
     let after = c.in-Some.after.now in
     let line = c.in-Some.ensures in (
       omega (arith, line.2, c.loop-rest.invariant.0),
-      sym (ap (λ r. and_then r (λ q. read-on (c.loop-rest.lines + 1) (Some q) (pieces 10 after))) c.in_ok-step.ensures)
+      sym (ap (λ r. and_then r (λ q. read_on (c.loop-rest.lines + 1) (Some q) (pieces 10 after))) c.in_ok-step.ensures)
           ∙ sym (line_first c.loop-rest.lines (option_map view c.loop-rest.draft) rest c.in-Some.bytes.now after line.0 line.1)
           ∙ c.loop-rest.invariant.1,
     )

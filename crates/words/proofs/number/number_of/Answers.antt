@@ -1,12 +1,12 @@
 use Rattle.std.proofs.Common.{◌≡◌, true, false, ◌∙◌, arith, rules}
-use Rattle.words.specs.Numbers.{plain-front}
+use Rattle.words.specs.Numbers.{plain_front}
 use Rattle.words.proofs.Numbering.{number-rule, no_front, no-digits, above-limit, within-limit}
 use Rattle.words.proofs.number.number_of.Goals as goal
 
 pub returns-then-not-has_plain_front : goal.returns-then-not-has_plain_front
 returns-then-not-has_plain_front c =
     let w = c.args.word.now in
-    let bad : plain-front w ≡ false = search rules in
+    let bad : plain_front w ≡ false = search rules in
     record { value = no_front w bad; rule = number-rule w }
 
 pub returns-in_err-value : goal.returns-in_err-value
@@ -22,5 +22,5 @@ returns-then-value-gt-LIMIT c =
 pub returns : goal.returns
 returns c =
     let w = c.args.word.now in
-    let good : plain-front w ≡ true = search rules in
+    let good : plain_front w ≡ true = search rules in
     record { value = within-limit w c.in_ok-value.value good c.in_ok-value.ensures (omega arith); rule = number-rule w }

@@ -1,5 +1,5 @@
 use Rattle.std.proofs.Common.{◌-◌, ◌<◌, ◌≤◌, length, ◌∙◌, arith, length-set}
-use Rattle.schedule.specs.Phases.{offset-of}
+use Rattle.schedule.specs.Phases.{offset_of}
 use Rattle.schedule.specs.declared.slot.Slot.{Slot}
 use Rattle.schedule.proofs.Slots.{sum-small, set-every, add-rising, add-below, add-sum}
 use Rattle.schedule.proofs.cyclic.Schedule.add.Goals as goal
@@ -16,7 +16,7 @@ invariant_of-self c =
     let n = s.count in
     let new : Slot = record { offset = c.args.offset; length = c.args.length } in
     let room : n < length s.slots = omega arith in
-    let last : 0 < n → offset-of s.slots (n - 1) < c.args.offset = λ some. elim c.else-self-gt0.branch [ else-self-gt0-via-then-self-gt0+else-offset-self-2 w ↦ w.if-offset-self-2.false | else-self-gt0-via-else-self-gt0 w ↦ omega (arith, w.if-self-gt0.false) ] in
+    let last : 0 < n → offset_of s.slots (n - 1) < c.args.offset = λ some. elim c.else-self-gt0.branch [ else-self-gt0-via-then-self-gt0+else-offset-self-2 w ↦ w.if-offset-self-2.false | else-self-gt0-via-else-self-gt0 w ↦ omega (arith, w.if-self-gt0.false) ] in
     record {
       held = length-set s.slots n new ∙ s.held;
       few = omega arith;

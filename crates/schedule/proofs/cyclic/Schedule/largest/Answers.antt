@@ -1,6 +1,6 @@
 use Rattle.std.proofs.Common.{◌≡◌, ◌+◌, ◌*◌, ◌/◌, ◌%◌, ◌≤◌, length, sym, ◌∙◌, mod-lt, arith}
 use Rattle.cycles.specs.Round.{sum, top}
-use Rattle.schedule.specs.Phases.{View, length-of, lengths-met}
+use Rattle.schedule.specs.Phases.{View, length_of, lengths_met}
 use Rattle.schedule.specs.Views.{demand-split, front_length, front-offsets, front-lengths, front-rising, front_below, front-largest}
 use Rattle.schedule.proofs.cyclic.Schedule.largest.Goals as goal
 
@@ -25,6 +25,6 @@ returns c =
     let short : s.count ≤ length s.slots = omega arith in
     let v : View = record { cycle = s.cycle; count = s.count; slots = s.slots; phase = s.phase; taken = s.taken } in
     let cycles : c.from.result ≡ l / s.cycle = c.from.ensures in
-    let whole : c.from-2.result ≡ sum (length-of s.slots) s.count = c.from-2.ensures ∙ s.all in
-    let rest : c.from-3.result ≡ top (lengths-met s.cycle s.count s.slots (l % s.cycle)) s.cycle = c.from-3.ensures ∙ c.largest_met-rest.ensures ∙ front-largest s.slots s.count short s.cycle (l % s.cycle) in
+    let whole : c.from-2.result ≡ sum (length_of s.slots) s.count = c.from-2.ensures ∙ s.all in
+    let rest : c.from-3.result ≡ top (lengths_met s.cycle s.count s.slots (l % s.cycle)) s.cycle = c.from-3.ensures ∙ c.largest_met-rest.ensures ∙ front-largest s.slots s.count short s.cycle (l % s.cycle) in
     (λ i. cycles i * whole i + rest i) ∙ sym (demand-split v (record { cycle = s.turn.0; phase = s.turn.1; rising = s.rising; below = s.below; lengths = s.lengths }) l)
