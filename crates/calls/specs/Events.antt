@@ -1,0 +1,51 @@
+-- The log of a run: its calls with their answers, in order, the oldest first; and what is counted in it.
+use Rattle.std.specs.Prelude.{ℕ, ◌+◌, cond, List, [], ◌∷◌, ◌++◌, ◌==◌}
+use Rattle.calls.specs.declared.Call.{Call}
+use Rattle.calls.specs.declared.Call.TheVariants.{Offer, Release, Hold, LetGo, End, Tick}
+use Rattle.calls.specs.declared.Answer.{Answer}
+use Rattle.calls.specs.declared.Answer.TheVariants.{Done, Refused, Ticked}
+
+-- a call and its answer
+pub record Event : Type 0 where
+  pub call : Call
+  pub answer : Answer
+
+-- the log of these calls and these answers, one with the other by their places, up to the end of the shorter list
+abbrev pub log_of : List Call → List Answer → List Event
+log_of [] answers = []
+log_of (c ∷ calls) [] = []
+log_of (c ∷ calls) (a ∷ answers) = record { call = c; answer = a } ∷ log_of calls answers
+
+-- 1 for a tick, 0 for any other call
+abbrev pub tick-in : Call → ℕ
+tick-in Tick = 1
+tick-in _ = 0
+
+-- how many of the calls are ticks
+abbrev pub ticks : List Event → ℕ
+ticks [] = 0
+ticks (e ∷ log) = tick-in e.call + ticks log
+
+-- the units that a call with that answer lets in for part k: those of an offer to it that was done
+abbrev pub part-units : ℕ → Call → Answer → ℕ
+part-units k (Offer j u) Done = cond (j == k) u 0
+part-units k _ _ = 0
+
+-- and for task i: those of a release of it that was done
+abbrev pub task-units : ℕ → Call → Answer → ℕ
+task-units i (Release j u) Done = cond (j == i) u 0
+task-units i _ _ = 0
+
+-- the units that all of the calls let in for part k
+abbrev pub let-in_part : ℕ → List Event → ℕ
+let-in_part k [] = 0
+let-in_part k (e ∷ log) = part-units k e.call e.answer + let-in_part k log
+
+-- and for task i
+abbrev pub let-in_task : ℕ → List Event → ℕ
+let-in_task i [] = 0
+let-in_task i (e ∷ log) = task-units i e.call e.answer + let-in_task i log
+
+-- these calls, and then a tick with that answer
+abbrev pub then_tick : List Event → Answer → List Event
+then_tick log a = log ++ (record { call = Tick; answer = a } ∷ [])

@@ -1,0 +1,4 @@
+pub mod Told
+pub mod Events
+pub mod Jobs
+pub mod Rules
