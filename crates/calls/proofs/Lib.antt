@@ -1,0 +1,4 @@
+pub mod Totals
+pub mod Facts
+pub mod Easing
+pub mod Staying
