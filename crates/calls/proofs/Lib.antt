@@ -2,3 +2,4 @@ pub mod Totals
 pub mod Facts
 pub mod Easing
 pub mod Staying
+pub mod Passing
