@@ -3,3 +3,4 @@ pub mod Facts
 pub mod Easing
 pub mod Staying
 pub mod Passing
+pub mod Showing

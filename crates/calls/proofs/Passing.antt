@@ -134,14 +134,14 @@ module _ (p : Plan) (s : State) (ok : Accepted p) (safe : Safe p s) where
       go (inr e) (inl l) = let none : upto s.left i ≡ 0 = upto-zero s.left i (λ k x y. e.1 k x (omega arith)) in absurd (omega arith)
 
   -- a job that is pending is told no age above its bound
-  in-time : (i : ℕ) → 1 ≤ i → i ≤ p.tasks → 1 ≤ s.left i → s.age i + 1 ≤ p.bound i
+  pub in-time : (i : ℕ) → 1 ≤ i → i ≤ p.tasks → 1 ≤ s.left i → s.age i + 1 ≤ p.bound i
   in-time i a b some =
       let more : 1 ≤ upto s.left i = omega (arith, upto-term s.left i i a (omega arith)) in
       let q = safe.busy i a b more in
       omega (arith, q.1.some, q.1.soon)
 
   -- only a task has a job
-  is-task : (i : ℕ) → 1 ≤ s.left i → (1 ≤ i) × (i ≤ p.tasks)
+  pub is-task : (i : ℕ) → 1 ≤ s.left i → (1 ≤ i) × (i ≤ p.tasks)
   is-task i some = (first (cases_eq i 0), last (cases_lt p.tasks i))
     where
       first : (i ≡ 0) ⊎ (i ≢ 0) → 1 ≤ i
@@ -153,7 +153,7 @@ module _ (p : Plan) (s : State) (ok : Accepted p) (safe : Safe p s) where
       last (inr g) = g
 
   -- the cap on ages is never met
-  uncapped : (i : ℕ) → 1 ≤ s.left i → min (s.age i + 1) p.cap ≡ s.age i + 1
+  pub uncapped : (i : ℕ) → 1 ≤ s.left i → min (s.age i + 1) p.cap ≡ s.age i + 1
   uncapped i some =
       let task = is-task i some in
       let soon : s.age i + 1 ≤ p.bound i = in-time i task.0 task.1 some in

@@ -1,0 +1,81 @@
+-- The job that a log shows is the one that the state has.
+use Rattle.std.proofs.Common.{◌≡◌, ℕ, ◌+◌, ◌-◌, ◌<◌, ◌≤◌, min, cond, Bool, true, false, eqb, nat_le, Option, Some, None, ◌⊎◌, inl, inr, sym, refl, ap, ◌∙◌, subst, arith}
+use Rattle.std.specs.Prelude.{◌==◌}
+use Rattle.std.proofs.lemmas.Bool.Decides.{nat_tests}
+use Rattle.calls.specs.declared.Call.{Call}
+use Rattle.calls.specs.declared.Call.TheVariants.{Offer, Release, Hold, LetGo, End, Tick}
+use Rattle.calls.specs.declared.Got.{Got}
+use Rattle.calls.specs.declared.Got.TheVariants.{Nobody, Part, Task}
+use Rattle.calls.specs.declared.Answer.{Answer}
+use Rattle.calls.specs.declared.Answer.TheVariants as answers
+use Rattle.calls.specs.Jobs.{Job, older, served, ticked, after, end-age}
+use Rattle.calls.specs.States.{Plan, Accepted, State}
+use Rattle.calls.specs.Steps.{Offered, Released, Granted, Let-go, Ended, Passed, Step, task-unit}
+use Rattle.calls.proofs.Facts.{Safe}
+use Rattle.calls.proofs.Passing.{age-exact, uncapped, in-time}
+
+-- it has these units left and this age, and is there as long as it has units left
+abbrev pub Shown : Option Job → ℕ → ℕ → Type 0
+Shown None l a = l ≡ 0
+Shown (Some job) l a = (job.left ≡ l) × (1 ≤ l) × (job.age ≡ a)
+
+shown-same : (job : Option Job) (l a l' a' : ℕ) → l' ≡ l → a' ≡ a → Shown job l a → Shown job l' a'
+shown-same None l a l' a' e f h = omega arith
+shown-same (Some job) l a l' a' e f h = (omega arith, omega arith, omega arith)
+
+-- a tick, in which b says whether the task got the unit
+shown-ticked : (job : Option Job) (b : Bool) (l a l' a' u : ℕ) → u ≡ cond b 1 0 → l' ≡ l - u → a' ≡ cond (nat_le 1 l') (a + 1) 0 → Shown job l a → Shown (cond b (served (older job)) (older job)) l' a'
+shown-ticked None true l a l' a' u e f g h = omega arith
+shown-ticked None false l a l' a' u e f g h = omega arith
+shown-ticked (Some job) false l a l' a' u e f g h =
+    let unit : u ≡ 0 = e in
+    let left : job.left ≡ l = h.0 in
+    let some : 1 ≤ l = h.1 in
+    let age : job.age ≡ a = h.2 in
+    (omega arith, omega arith, grind (arith, nat_tests))
+shown-ticked (Some job) true l a l' a' u e f g h = go (nat_le job.left 1) refl
+  where
+    go : (c : Bool) → nat_le job.left 1 ≡ c → Shown (cond c None (Some (record { left = job.left - 1; age = job.age + 1 }))) l' a'
+    go true k =
+        let unit : u ≡ 1 = e in
+        let left : job.left ≡ l = h.0 in
+        grind (arith, nat_tests)
+    go false k =
+        let unit : u ≡ 1 = e in
+        let left : job.left ≡ l = h.0 in
+        let age : job.age ≡ a = h.2 in
+        let more : 1 < job.left = grind (arith, nat_tests) in
+        (omega arith, omega arith, grind (arith, nat_tests))
+
+shown-released : (p : Plan) (s t : State) (k u i : ℕ) (job : Option Job) → Released p s k u t → Shown job (s.left i) (s.age i) → Shown (cond (k == i) (Some (record { left = u; age = 0 })) job) (t.left i) (t.age i)
+shown-released p s t k u i job h shown = go (k == i) refl
+  where
+    go : (b : Bool) → (k == i) ≡ b → Shown (cond b (Some (record { left = u; age = 0 })) job) (t.left i) (t.age i)
+    go true e =
+        let left = h.left i in
+        let age = h.age i in
+        let some = h.some in
+        (grind (arith, nat_tests), grind (arith, nat_tests), grind (arith, nat_tests))
+    go false e =
+        let left = h.left i in
+        let age = h.age i in
+        shown-same job (s.left i) (s.age i) (t.left i) (t.age i) (grind (arith, nat_tests)) (grind (arith, nat_tests)) shown
+
+shown-ended : (s t : State) (k i : ℕ) (job : Option Job) → Ended s k t → Shown job (s.left i) (s.age i) → Shown (cond (k == i) None job) (t.left i) (t.age i)
+shown-ended s t k i job h shown = go (k == i) refl
+  where
+    go : (b : Bool) → (k == i) ≡ b → Shown (cond b None job) (t.left i) (t.age i)
+    go true e = let left = h.left i in grind (arith, nat_tests)
+    go false e =
+        let left = h.left i in
+        let age = h.age i in
+        shown-same job (s.left i) (s.age i) (t.left i) (t.age i) (grind (arith, nat_tests)) (grind (arith, nat_tests)) shown
+
+-- a call that leaves jobs as they are
+shown-rest : (s t : State) (i : ℕ) (job : Option Job) → t.left ≡ s.left → t.age ≡ s.age → Shown job (s.left i) (s.age i) → Shown job (t.left i) (t.age i)
+shown-rest s t i job e f shown = shown-same job (s.left i) (s.age i) (t.left i) (t.age i) (λ x. e x i) (λ x. f x i) shown
+
+shown-passed : (p : Plan) (s t : State) (got : Got) (i : ℕ) (job : Option Job) → Accepted p → Safe p s → Passed p s got t → Shown job (s.left i) (s.age i) → Shown (ticked i job got) (t.left i) (t.age i)
+shown-passed p s t Nobody i job ok safe h shown = shown-ticked job false (s.left i) (s.age i) (t.left i) (t.age i) 0 refl (h.left i) (age-exact p s ok safe t Nobody h i) shown
+shown-passed p s t (Part k) i job ok safe h shown = shown-ticked job false (s.left i) (s.age i) (t.left i) (t.age i) 0 refl (h.left i) (age-exact p s ok safe t (Part k) h i) shown
+shown-passed p s t (Task j a) i job ok safe h shown = shown-ticked job (j == i) (s.left i) (s.age i) (t.left i) (t.age i) (cond (i == j) 1 0) (grind (arith, nat_tests)) (h.left i) (age-exact p s ok safe t (Task j a) h i) shown
