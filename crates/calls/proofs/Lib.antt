@@ -4,3 +4,6 @@ pub mod Easing
 pub mod Staying
 pub mod Passing
 pub mod Showing
+pub mod Leading
+pub mod Limiting
+pub mod Guaranteeing

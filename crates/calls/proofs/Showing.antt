@@ -79,3 +79,37 @@ shown-passed : (p : Plan) (s t : State) (got : Got) (i : ℕ) (job : Option Job)
 shown-passed p s t Nobody i job ok safe h shown = shown-ticked job false (s.left i) (s.age i) (t.left i) (t.age i) 0 refl (h.left i) (age-exact p s ok safe t Nobody h i) shown
 shown-passed p s t (Part k) i job ok safe h shown = shown-ticked job false (s.left i) (s.age i) (t.left i) (t.age i) 0 refl (h.left i) (age-exact p s ok safe t (Part k) h i) shown
 shown-passed p s t (Task j a) i job ok safe h shown = shown-ticked job (j == i) (s.left i) (s.age i) (t.left i) (t.age i) (cond (i == j) 1 0) (grind (arith, nat_tests)) (h.left i) (age-exact p s ok safe t (Task j a) h i) shown
+
+pub shown-after : (p : Plan) (s t : State) (c : Call) (a : Answer) (i : ℕ) (job : Option Job) → Accepted p → Safe p s → Step p s c a t → Shown job (s.left i) (s.age i) → Shown (after i job c a) (t.left i) (t.age i)
+shown-after p s t (Offer k u) answers.Done i job ok safe h shown = shown-rest s t i job (ap (λ x. x.left) h.rest) (ap (λ x. x.age) h.rest) shown
+shown-after p s t (Release k u) answers.Done i job ok safe h shown = shown-released p s t k u i job h shown
+shown-after p s t (Hold k u) answers.Done i job ok safe h shown = shown-rest s t i job (ap (λ x. x.left) h.rest) (ap (λ x. x.age) h.rest) shown
+shown-after p s t (LetGo k) answers.Done i job ok safe h shown = shown-rest s t i job (ap (λ x. x.left) h.rest) (ap (λ x. x.age) h.rest) shown
+shown-after p s t (End k) answers.Done i job ok safe h shown = shown-ended s t k i job h shown
+shown-after p s t Tick (answers.Ticked got) i job ok safe h shown = shown-passed p s t got i job ok safe h shown
+shown-after p s t (Offer k u) (answers.Refused e) i job ok safe h shown = shown-rest s t i job (ap (λ x. x.left) h) (ap (λ x. x.age) h) shown
+shown-after p s t (Release k u) (answers.Refused e) i job ok safe h shown = shown-rest s t i job (ap (λ x. x.left) h) (ap (λ x. x.age) h) shown
+shown-after p s t (Hold k u) (answers.Refused e) i job ok safe h shown = shown-rest s t i job (ap (λ x. x.left) h) (ap (λ x. x.age) h) shown
+shown-after p s t (LetGo k) (answers.Refused e) i job ok safe h shown = shown-rest s t i job (ap (λ x. x.left) h) (ap (λ x. x.age) h) shown
+shown-after p s t (End k) (answers.Refused e) i job ok safe h shown = shown-rest s t i job (ap (λ x. x.left) h) (ap (λ x. x.age) h) shown
+shown-after p s t c a i job ok safe h shown = absurd h
+
+-- a tick tells the age of the job that it ended, and that is within the bound
+pub told-in-time : (p : Plan) (s t : State) (i a : ℕ) (job : Option Job) → Accepted p → Safe p s → Passed p s (Task i a) t → Shown job (s.left i) (s.age i) → (a ≡ end-age job) × (a ≤ p.bound i)
+told-in-time p s t i a job ok safe h shown = (exact job shown, within)
+  where
+    some : 1 ≤ s.left i
+    some = h.due.3
+
+    old : min (s.age i + 1) p.cap ≡ s.age i + 1
+    old = uncapped p s ok safe i some
+
+    told : a ≡ cond (nat_le (s.left i) 1) (s.age i + 1) 0
+    told = h.told ∙ ap (λ x. cond (nat_le (s.left i) 1) x 0) old
+
+    exact : (job : Option Job) → Shown job (s.left i) (s.age i) → a ≡ end-age job
+    exact None e = absurd (omega (arith, some))
+    exact (Some job) e = told ∙ (λ x. cond (nat_le (sym e.0 x) 1) (sym e.2 x + 1) 0)
+
+    within : a ≤ p.bound i
+    within = let soon : s.age i + 1 ≤ p.bound i = in-time p s ok safe i h.due.1 h.due.2 some in let x = told in grind (arith, nat_tests)

