@@ -16,6 +16,11 @@ pub record Eased (p : Plan) (s t : State) : Type 0 where
   pub below : (i : ℕ) → 1 ≤ upto t.left i → below t i ≤ below s i
   pub sane : Sane p t
 
+-- a hold stays right where its units are still within those left of its job
+holding-stays : (p : Plan) (left left' : ℕ → ℕ) (x u : ℕ) → (1 ≤ u → u ≤ left x → u ≤ left' x) → Holding p left x u → Holding p left' x u
+holding-stays p left left' x u h (inl none) = inl none
+holding-stays p left left' x u h (inr some) = inr (some.0, some.1, some.2, some.3, h some.2 some.4)
+
 -- what one taken offer makes of a function of the number of a part, with u put where it was taken
 taken-at : (a a' : ℕ → ℕ → ℕ) (f f' : ℕ → ℕ) (k u : ℕ) → Taken a k u a' → ((j : ℕ) → f' j ≡ cond (eqb j k) (f j + u) (f j)) → (j m : ℕ) → 1 ≤ m → f' j + a' j m ≤ f j + a j m
 taken-at a a' f f' k u taken put j m h =
@@ -90,9 +95,13 @@ eased-released p s t i u sane h = subst (λ x. Eased p s x) (sym h.rest) (record
     zeroth = (let new = h.left 0 in let was = sane.zeroth in let first = h.first in grind (arith, nat_tests));
     outside = λ j out. (let new = h.left j in let was = sane.outside j out in let last = h.last in grind (arith, nat_tests));
     ageless = λ j none. (let new = h.left j in let new' = h.age j in let was = sane.ageless j in let some = h.some in grind (arith, nat_tests));
-    hold = sane.hold;
+    hold = holding-stays p s.left t.left s.holder s.held (other (cases_eq s.holder i)) sane.hold;
   };
 })
+  where
+    other : (s.holder ≡ i) ⊎ (s.holder ≢ i) → 1 ≤ s.held → s.held ≤ s.left s.holder → s.held ≤ t.left s.holder
+    other (inl e) a b = (let same : s.left s.holder ≡ s.left i = ap s.left e in let none = h.none in absurd (omega arith))
+    other (inr ne) a b = let new = h.left s.holder in grind (arith, nat_tests)
 
 -- a hold is granted only to the highest task with a job: seen from a task that a job goes before, nothing holds below it
 pub eased-granted : (p : Plan) (s t : State) (i u : ℕ) → Sane p s → Granted p s i u t → Eased p s t
@@ -106,7 +115,7 @@ eased-granted p s t i u sane h = subst (λ x. Eased p s x) (sym h.rest) (record 
     zeroth = sane.zeroth;
     outside = sane.outside;
     ageless = sane.ageless;
-    hold = inr (h.first, h.last, h.some, h.short);
+    hold = inr (h.first, h.last, h.some, h.short, h.within);
   };
 })
   where
@@ -147,9 +156,11 @@ eased-ended p s t i sane h = subst (λ x. Eased p s x) (sym h.rest) (record {
     fewer : (j : ℕ) → cond (ltb j t.holder) t.held 0 ≤ cond (ltb j s.holder) s.held 0
     fewer j = let a = h.holder in let b = h.held in grind (arith, nat_tests)
 
-    holds : Holding p s.holder s.held → (s.holder ≡ i) ⊎ (s.holder ≢ i) → Holding p t.holder t.held
+    holds : Holding p s.left s.holder s.held → (s.holder ≡ i) ⊎ (s.holder ≢ i) → Holding p t.left t.holder t.held
     holds was (inl e) = let a = h.holder in let b = h.held in inl (grind (arith, nat_tests), grind (arith, nat_tests))
     holds was (inr ne) =
         let a : t.holder ≡ s.holder = h.holder ∙ cond-false (eqb s.holder i) 0 s.holder (ne_eqb s.holder i ne) in
         let b : t.held ≡ s.held = h.held ∙ cond-false (eqb s.holder i) 0 s.held (ne_eqb s.holder i ne) in
-        subst (λ x. Holding p x t.held) (sym a) (subst (λ y. Holding p s.holder y) (sym b) was)
+        let same : t.left s.holder ≡ s.left s.holder = h.left s.holder ∙ cond-false (eqb s.holder i) 0 (s.left s.holder) (ne_eqb s.holder i ne) in
+        let stays : Holding p t.left s.holder s.held = holding-stays p s.left t.left s.holder s.held (λ x y. omega arith) was in
+        subst (λ x. Holding p t.left x t.held) (sym a) (subst (λ y. Holding p t.left s.holder y) (sym b) stays)

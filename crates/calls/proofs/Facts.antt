@@ -29,16 +29,16 @@ pub record Busy (p : Plan) (s : State) (i m : ℕ) : Type 0 where
   pub soon : s.age i + m ≤ p.bound i
   pub fits : flood p s m + ahead s i m + below s i ≤ m
 
--- nobody holds, or a task does, for at most its longest hold
-abbrev pub Holding : Plan → ℕ → ℕ → Type 0
-Holding p x u = ((x ≡ 0) × (u ≡ 0)) ⊎ ((1 ≤ x) × (x ≤ p.tasks) × (1 ≤ u) × (u ≤ p.hold x))
+-- where tasks have these units left: nobody holds, or a task does, for at most its longest hold and the units left of its job
+abbrev pub Holding : Plan → (ℕ → ℕ) → ℕ → ℕ → Type 0
+Holding p left x u = ((x ≡ 0) × (u ≡ 0)) ⊎ ((1 ≤ x) × (x ≤ p.tasks) × (1 ≤ u) × (u ≤ p.hold x) × (u ≤ left x))
 
 -- a job is of a task, only a job has an age, and a hold is short and of a task
 pub record Sane (p : Plan) (s : State) : Type 0 where
   pub zeroth : s.left 0 ≡ 0
   pub outside : (i : ℕ) → p.tasks < i → s.left i ≡ 0
   pub ageless : (i : ℕ) → s.left i ≡ 0 → s.age i ≡ 0
-  pub hold : Holding p s.holder s.held
+  pub hold : Holding p s.left s.holder s.held
 
 pub record Safe (p : Plan) (s : State) : Type 0 where
   pub fits : Fits p s

@@ -5,7 +5,7 @@ use Rattle.std.proofs.lemmas.Bool.{cases_eq, cases_lt}
 use Rattle.calls.specs.declared.Got.{Got}
 use Rattle.calls.specs.declared.Got.TheVariants.{Nobody, Part, Task}
 use Rattle.calls.specs.States.{upto, Plan, Accepted, State, Fits}
-use Rattle.calls.specs.Steps.{Passed, Idle, part-unit, task-unit, kept-units}
+use Rattle.calls.specs.Steps.{Due, Passed, Idle, part-unit, task-unit, kept-units}
 use Rattle.calls.proofs.Totals.{upto-below, upto-less, upto-plus, upto-zero, upto-term}
 use Rattle.calls.proofs.Facts.{flood, ahead, coming, below, Quiet, Busy, Holding, Sane, Safe}
 use Rattle.calls.proofs.Staying.{quiet_anew}
@@ -67,6 +67,15 @@ module _ (p : Plan) (s t : State) (got : Got) (h : Passed p s got t) where
   pub below-passes : (i : ℕ) → below t i ≤ below s i
   below-passes i = omega (arith, below-kept i, below-fewer i s.holder s.held (task-unit got s.holder))
 
+-- a task that gets the unit has a job
+pub has-job : (p : Plan) (s : State) (i a : ℕ) → Sane p s → Due p s (Task i a) → (i ≤ p.tasks) × (1 ≤ s.left i)
+has-job p s i a sane due = go due.2 sane.hold
+  where
+    go : (s.holder ≡ i) ⊎ ((s.holder ≡ 0) × (i ≤ p.tasks) × (1 ≤ s.left i) × ((j : ℕ) → 1 ≤ j → j < i → s.left j ≡ 0)) → Holding p s.left s.holder s.held → (i ≤ p.tasks) × (1 ≤ s.left i)
+    go (inr which) hold = (which.1, which.2)
+    go (inl e) (inl hold) = absurd (omega (arith, due.1, e, hold.0))
+    go (inl e) (inr hold) = (let same : s.left s.holder ≡ s.left i = ap s.left e in (omega arith, omega arith))
+
 -- a part that gets the unit
 module _ (p : Plan) (s t : State) (k : ℕ) (h : Passed p s (Part k) t) where
   pub flood-served : (m : ℕ) → 1 ≤ m → flood p t (m - 1) + 1 ≤ flood p s m
@@ -82,27 +91,27 @@ module _ (p : Plan) (s t : State) (k : ℕ) (h : Passed p s (Part k) t) where
           omega arith
 
 -- a task that gets the unit
-module _ (p : Plan) (s t : State) (j a : ℕ) (h : Passed p s (Task j a) t) where
+module _ (p : Plan) (s t : State) (j a : ℕ) (sane : Sane p s) (h : Passed p s (Task j a) t) where
   pub ahead-served : (i m : ℕ) → j ≤ i → 1 ≤ m → ahead t i (m - 1) + 1 ≤ ahead s i m
   ahead-served i m l c =
       upto-less (λ q. t.left q + t.tasks q (m - 1)) (λ q. s.left q + s.tasks q m) i j h.due.1 l (λ q b d. ahead-point p s t (Task j a) h q m c) here
     where
       here : t.left j + t.tasks j (m - 1) + 1 ≤ s.left j + s.tasks j m
       here =
-          let some : 1 ≤ s.left j = h.due.3 in
+          let some : 1 ≤ s.left j = (has-job p s j a sane h.due).1 in
           let unit : task-unit (Task j a) j ≡ 1 = own-unit j a in
           let new : t.left j ≡ s.left j - task-unit (Task j a) j = h.left j in
           let less : t.tasks j (m - 1) ≤ s.tasks j m = tasks-shorter p s t (Task j a) h j m c in
           omega arith
 
-  pub below-served : (i : ℕ) → Sane p s → s.holder ≡ j → i < j → below t i + 1 ≤ below s i
-  below-served i sane e l =
+  pub below-served : (i : ℕ) → s.holder ≡ j → i < j → below t i + 1 ≤ below s i
+  below-served i e l =
       let kept : below t i ≤ cond (ltb i s.holder) (s.held - task-unit (Task j a) s.holder) 0 = below-kept p s t (Task j a) h i in
       let unit : task-unit (Task j a) s.holder ≡ 1 = ap (task-unit (Task j a)) e ∙ own-unit j a in
       let some : 1 ≤ s.held = held sane.hold in
       omega (arith, below-one i s.holder s.held (task-unit (Task j a) s.holder) (omega arith) some (omega arith))
     where
-      held : Holding p s.holder s.held → 1 ≤ s.held
+      held : Holding p s.left s.holder s.held → 1 ≤ s.held
       held (inl x) = absurd (omega arith)
       held (inr x) = x.2
 
@@ -117,7 +126,7 @@ module _ (p : Plan) (s : State) (ok : Accepted p) (safe : Safe p s) where
       let a : ahead t i (m - 1) ≤ ahead s i m = ahead-passes p s t (Part k) h i m c in
       let d : below t i ≤ below s i = below-passes p s t (Part k) h i in
       omega arith
-  all-served t (Task j old) h i m b c more = go h.due.4 (cases_lt i j)
+  all-served t (Task j old) h i m b c more = go h.due.2 (cases_lt i j)
     where
       f : flood p t (m - 1) ≤ flood p s m
       f = flood-passes p s t (Task j old) h m c
@@ -128,10 +137,10 @@ module _ (p : Plan) (s : State) (ok : Accepted p) (safe : Safe p s) where
       d : below t i ≤ below s i
       d = below-passes p s t (Task j old) h i
 
-      go : (s.holder ≡ j) ⊎ ((s.holder ≡ 0) × ((k : ℕ) → 1 ≤ k → k < j → s.left k ≡ 0)) → (i < j) ⊎ (j ≤ i) → flood p t (m - 1) + ahead t i (m - 1) + below t i + 1 ≤ flood p s m + ahead s i m + below s i
-      go which (inr g) = let a' : ahead t i (m - 1) + 1 ≤ ahead s i m = ahead-served p s t j old h i m g c in omega (arith, f, d)
-      go (inl e) (inl l) = let d' : below t i + 1 ≤ below s i = below-served p s t j old h i safe.sane e l in omega (arith, f, a)
-      go (inr e) (inl l) = let none : upto s.left i ≡ 0 = upto-zero s.left i (λ k x y. e.1 k x (omega arith)) in absurd (omega arith)
+      go : (s.holder ≡ j) ⊎ ((s.holder ≡ 0) × (j ≤ p.tasks) × (1 ≤ s.left j) × ((k : ℕ) → 1 ≤ k → k < j → s.left k ≡ 0)) → (i < j) ⊎ (j ≤ i) → flood p t (m - 1) + ahead t i (m - 1) + below t i + 1 ≤ flood p s m + ahead s i m + below s i
+      go which (inr g) = let a' : ahead t i (m - 1) + 1 ≤ ahead s i m = ahead-served p s t j old safe.sane h i m g c in omega (arith, f, d)
+      go (inl e) (inl l) = let d' : below t i + 1 ≤ below s i = below-served p s t j old safe.sane h i e l in omega (arith, f, a)
+      go (inr e) (inl l) = let none : upto s.left i ≡ 0 = upto-zero s.left i (λ k x y. e.3 k x (omega arith)) in absurd (omega arith)
 
   -- a job that is pending is told no age above its bound
   pub in-time : (i : ℕ) → 1 ≤ i → i ≤ p.tasks → 1 ≤ s.left i → s.age i + 1 ≤ p.bound i
@@ -208,13 +217,15 @@ module _ (p : Plan) (s : State) (ok : Accepted p) (safe : Safe p s) where
     hold = holds safe.sane.hold (nat_le 1 (kept-units s got) && nat_le 1 (t.left s.holder)) refl h.holder h.held;
   }
     where
-      holds : Holding p s.holder s.held → (b : Bool) → (nat_le 1 (kept-units s got) && nat_le 1 (t.left s.holder)) ≡ b → t.holder ≡ cond b s.holder 0 → t.held ≡ cond b (kept-units s got) 0 → Holding p t.holder t.held
+      holds : Holding p s.left s.holder s.held → (b : Bool) → (nat_le 1 (kept-units s got) && nat_le 1 (t.left s.holder)) ≡ b → t.holder ≡ cond b s.holder 0 → t.held ≡ cond b (kept-units s got) 0 → Holding p t.left t.holder t.held
       holds was false e x y = inl (x, y)
       holds (inl was) true e x y = (let some : 1 ≤ kept-units s got = goes-on (kept-units s got) (nat_le 1 (t.left s.holder)) e in absurd (omega arith))
       holds (inr was) true e x y =
           let some : 1 ≤ kept-units s got = goes-on (kept-units s got) (nat_le 1 (t.left s.holder)) e in
           let short : p.hold t.holder ≡ p.hold s.holder = ap p.hold x in
-          inr (omega arith, omega arith, omega arith, omega arith)
+          let left : t.left t.holder ≡ t.left s.holder = ap t.left x in
+          let new : t.left s.holder ≡ s.left s.holder - task-unit got s.holder = h.left s.holder in
+          inr (omega arith, omega arith, omega arith, omega arith, omega arith)
 
   pub safe-passed : (t : State) (got : Got) → Passed p s got t → Fits p t → Safe p t
   safe-passed t got h fits = record {

@@ -12,7 +12,7 @@ use Rattle.calls.specs.Jobs.{Job, older, served, ticked, after, end-age}
 use Rattle.calls.specs.States.{Plan, Accepted, State}
 use Rattle.calls.specs.Steps.{Offered, Released, Granted, Let-go, Ended, Passed, Step, task-unit}
 use Rattle.calls.proofs.Facts.{Safe}
-use Rattle.calls.proofs.Passing.{age-exact, uncapped, in-time}
+use Rattle.calls.proofs.Passing.{has-job, age-exact, uncapped, in-time}
 
 -- it has these units left and this age, and is there as long as it has units left
 abbrev pub Shown : Option Job → ℕ → ℕ → Type 0
@@ -99,7 +99,7 @@ pub told-in-time : (p : Plan) (s t : State) (i a : ℕ) (job : Option Job) → A
 told-in-time p s t i a job ok safe h shown = (exact job shown, within)
   where
     some : 1 ≤ s.left i
-    some = h.due.3
+    some = (has-job p s i a safe.sane h.due).1
 
     old : min (s.age i + 1) p.cap ≡ s.age i + 1
     old = uncapped p s ok safe i some
@@ -112,4 +112,4 @@ told-in-time p s t i a job ok safe h shown = (exact job shown, within)
     exact (Some job) e = told ∙ (λ x. cond (nat_le (sym e.0 x) 1) (sym e.2 x + 1) 0)
 
     within : a ≤ p.bound i
-    within = let soon : s.age i + 1 ≤ p.bound i = in-time p s ok safe i h.due.1 h.due.2 some in let x = told in grind (arith, nat_tests)
+    within = let soon : s.age i + 1 ≤ p.bound i = in-time p s ok safe i h.due.1 (has-job p s i a safe.sane h.due).0 some in let x = told in grind (arith, nat_tests)

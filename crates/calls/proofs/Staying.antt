@@ -4,7 +4,7 @@ use Rattle.std.proofs.lemmas.Bool.Decides.{nat_tests}
 use Rattle.std.proofs.lemmas.Bool.{cases_eq, cases_lt}
 use Rattle.calls.specs.States.{upto, Plan, Accepted, State, Fits, Fresh, need}
 use Rattle.calls.proofs.Totals.{upto-below, upto-plus, upto-zero, upto-term, upto-last}
-use Rattle.calls.proofs.Facts.{flood, ahead, coming, below, Quiet, Busy, Sane, Safe}
+use Rattle.calls.proofs.Facts.{flood, ahead, coming, below, Quiet, Busy, Holding, Sane, Safe}
 use Rattle.calls.proofs.Easing.{Eased}
 
 -- where no part has backlog, the bound itself is a window that has room for all
@@ -58,7 +58,7 @@ module _ (p : Plan) (s t : State) (ok : Accepted p) (safe : Safe p s) (eased : E
   below-least : (i : ℕ) → 1 ≤ i → below s i ≤ p.blocking i
   below-least i a = least safe.sane.hold (cases_lt i s.holder)
     where
-      least : ((s.holder ≡ 0) × (s.held ≡ 0)) ⊎ ((1 ≤ s.holder) × (s.holder ≤ p.tasks) × (1 ≤ s.held) × (s.held ≤ p.hold s.holder)) → (i < s.holder) ⊎ (s.holder ≤ i) → cond (ltb i s.holder) s.held 0 ≤ p.blocking i
+      least : Holding p s.left s.holder s.held → (i < s.holder) ⊎ (s.holder ≤ i) → cond (ltb i s.holder) s.held 0 ≤ p.blocking i
       least h (inr g) = grind (arith, nat_tests)
       least (inl h) (inl l) = absurd (omega arith)
       least (inr h) (inl l) = (let short : p.hold s.holder ≤ p.blocking i = ok.blocked i s.holder a l h.1 in grind (arith, nat_tests))

@@ -61,7 +61,7 @@ Idle p s = (k : ℕ) → 1 ≤ k → k ≤ p.parts → s.backlog k ≡ 0
 -- has a job, else nobody
 abbrev pub Due : Plan → State → Got → Type 0
 Due p s (Part k) = (1 ≤ k) × (k ≤ p.parts) × (1 ≤ s.backlog k) × ((j : ℕ) → 1 ≤ j → j < k → s.backlog j ≡ 0)
-Due p s (Task i a) = Idle p s × (1 ≤ i) × (i ≤ p.tasks) × (1 ≤ s.left i) × ((s.holder ≡ i) ⊎ ((s.holder ≡ 0) × ((j : ℕ) → 1 ≤ j → j < i → s.left j ≡ 0)))
+Due p s (Task i a) = Idle p s × (1 ≤ i) × ((s.holder ≡ i) ⊎ ((s.holder ≡ 0) × (i ≤ p.tasks) × (1 ≤ s.left i) × ((j : ℕ) → 1 ≤ j → j < i → s.left j ≡ 0)))
 Due p s Nobody = Idle p s × (s.holder ≡ 0) × ((i : ℕ) → 1 ≤ i → i ≤ p.tasks → s.left i ≡ 0)
 
 -- 1 for the part that got the unit, 0 for any other
