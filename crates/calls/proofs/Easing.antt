@@ -1,11 +1,11 @@
 -- A call that is no tick, point by point: nothing that the facts speak of rises.
-use Rattle.std.proofs.Common.{◌≡◌, ℕ, ◌+◌, ◌-◌, ◌<◌, ◌≤◌, min, cond, Bool, true, false, eqb, ltb, nat_le, ◌≢◌, ◌⊎◌, inl, inr, sym, refl, ap, ◌∙◌, subst, arith}
+use Rattle.std.proofs.Common.{◌≡◌, ℕ, ◌+◌, ◌<◌, ◌≤◌, cond, eqb, ltb, ◌≢◌, ◌⊎◌, inl, inr, sym, refl, ap, ◌∙◌, subst, arith}
 use Rattle.std.proofs.lemmas.Bool.Decides.{nat_tests}
 use Rattle.std.proofs.lemmas.Bool.{cases_eq, cases_lt, cond-false, ne_eqb}
 use Rattle.source.specs.Facts.{Taken}
-use Rattle.calls.specs.States.{upto, Plan, State, Fits}
+use Rattle.calls.specs.States.{upto, Plan, State}
 use Rattle.calls.specs.Steps.{Offered, Released, Granted, Let-go, Ended}
-use Rattle.calls.proofs.Totals.{upto-zero, upto-term}
+use Rattle.calls.proofs.Totals.{upto-zero}
 use Rattle.calls.proofs.Facts.{below, Holding, Sane}
 
 pub record Eased (p : Plan) (s t : State) : Type 0 where

@@ -1,5 +1,5 @@
 -- From the start of a run on: every state is safe, and has the jobs that the log shows.
-use Rattle.std.proofs.Common.{◌≡◌, ℕ, ◌+◌, ◌<◌, ◌≤◌, List, [], ◌∷◌, ◌++◌, Option, Some, None, sym, refl, ap, subst, arith}
+use Rattle.std.proofs.Common.{◌≡◌, ℕ, ◌+◌, ◌<◌, ◌≤◌, List, [], ◌∷◌, ◌++◌, Option, Some, None, sym, refl, subst, arith}
 use Rattle.calls.specs.declared.Call.{Call}
 use Rattle.calls.specs.declared.Call.TheVariants.{Offer, Release, Hold, LetGo, End, Tick}
 use Rattle.calls.specs.declared.Got.TheVariants.{Task}
@@ -11,7 +11,7 @@ use Rattle.calls.specs.Rules.{NeverLate}
 use Rattle.calls.specs.States.{Plan, Accepted, State, Fits, Fresh}
 use Rattle.calls.specs.Steps.{Step, Leads}
 use Rattle.calls.proofs.Facts.{Safe}
-use Rattle.calls.proofs.Easing.{Eased, eased-same, eased-offered, eased-released, eased-granted, eased-let-go, eased-ended}
+use Rattle.calls.proofs.Easing.{eased-same, eased-offered, eased-released, eased-granted, eased-let-go, eased-ended}
 use Rattle.calls.proofs.Staying.{safe_start, safe-eased}
 use Rattle.calls.proofs.Passing.{safe-passed, is-task, in-time}
 use Rattle.calls.proofs.Showing.{Shown, shown-after, told-in-time}

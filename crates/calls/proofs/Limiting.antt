@@ -1,5 +1,5 @@
 -- What a stretch lets in is within the allowance at its start.
-use Rattle.std.proofs.Common.{◌≡◌, ℕ, ◌+◌, ◌<◌, ◌≤◌, cond, List, [], ◌∷◌, ◌++◌, ◌⊎◌, ◌≢◌, inl, inr, sym, refl, ap, subst, zero-add, arith}
+use Rattle.std.proofs.Common.{◌≡◌, ℕ, ◌+◌, ◌≤◌, cond, List, [], ◌∷◌, ◌++◌, ◌⊎◌, ◌≢◌, inl, inr, ap, subst, zero-add, arith}
 use Rattle.std.specs.Prelude.{◌==◌}
 use Rattle.std.proofs.lemmas.Bool.Decides.{nat_tests}
 use Rattle.std.proofs.lemmas.Bool.{cases_eq}
@@ -12,7 +12,6 @@ use Rattle.calls.specs.Events.{Event, tick-in, ticks, part-units, task-units, le
 use Rattle.calls.specs.Rules.{NeverMore}
 use Rattle.calls.specs.States.{Plan, Accepted, State, Fits, Fresh}
 use Rattle.calls.specs.Steps.{Step, Leads}
-use Rattle.calls.proofs.Facts.{Safe}
 use Rattle.calls.proofs.Staying.{safe_start}
 use Rattle.calls.proofs.Leading.{parted, safe-along}
 

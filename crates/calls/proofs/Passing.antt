@@ -1,11 +1,11 @@
 -- A tick keeps a run safe.
-use Rattle.std.proofs.Common.{◌≡◌, ℕ, ◌+◌, ◌-◌, ◌<◌, ◌≤◌, min, cond, Bool, true, false, ◌&&◌, nat_le, ltb, ◌≢◌, ◌⊎◌, inl, inr, sym, refl, ap, ◌∙◌, subst, arith}
+use Rattle.std.proofs.Common.{◌≡◌, ℕ, ◌+◌, ◌-◌, ◌<◌, ◌≤◌, min, cond, Bool, true, false, ◌&&◌, nat_le, ltb, ◌≢◌, ◌⊎◌, inl, inr, refl, ap, ◌∙◌, arith}
 use Rattle.std.proofs.lemmas.Bool.Decides.{nat_tests}
 use Rattle.std.proofs.lemmas.Bool.{cases_eq, cases_lt}
 use Rattle.calls.specs.declared.Got.{Got}
 use Rattle.calls.specs.declared.Got.TheVariants.{Nobody, Part, Task}
 use Rattle.calls.specs.States.{upto, Plan, Accepted, State, Fits}
-use Rattle.calls.specs.Steps.{Due, Passed, Idle, part-unit, task-unit, kept-units}
+use Rattle.calls.specs.Steps.{Due, Passed, part-unit, task-unit, kept-units}
 use Rattle.calls.proofs.Totals.{upto-below, upto-less, upto-plus, upto-zero, upto-term}
 use Rattle.calls.proofs.Facts.{flood, ahead, coming, below, Quiet, Busy, Holding, Sane, Safe}
 use Rattle.calls.proofs.Staying.{quiet_anew}

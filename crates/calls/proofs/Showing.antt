@@ -1,5 +1,5 @@
 -- The job that a log shows is the one that the state has.
-use Rattle.std.proofs.Common.{◌≡◌, ℕ, ◌+◌, ◌-◌, ◌<◌, ◌≤◌, min, cond, Bool, true, false, eqb, nat_le, Option, Some, None, ◌⊎◌, inl, inr, sym, refl, ap, ◌∙◌, subst, arith}
+use Rattle.std.proofs.Common.{◌≡◌, ℕ, ◌+◌, ◌-◌, ◌<◌, ◌≤◌, min, cond, Bool, true, false, nat_le, Option, Some, None, sym, refl, ap, ◌∙◌, arith}
 use Rattle.std.specs.Prelude.{◌==◌}
 use Rattle.std.proofs.lemmas.Bool.Decides.{nat_tests}
 use Rattle.calls.specs.declared.Call.{Call}
@@ -10,7 +10,7 @@ use Rattle.calls.specs.declared.Answer.{Answer}
 use Rattle.calls.specs.declared.Answer.TheVariants as answers
 use Rattle.calls.specs.Jobs.{Job, older, served, ticked, after, end-age}
 use Rattle.calls.specs.States.{Plan, Accepted, State}
-use Rattle.calls.specs.Steps.{Offered, Released, Granted, Let-go, Ended, Passed, Step, task-unit}
+use Rattle.calls.specs.Steps.{Released, Ended, Passed, Step}
 use Rattle.calls.proofs.Facts.{Safe}
 use Rattle.calls.proofs.Passing.{has-job, age-exact, uncapped, in-time}
 

@@ -1,10 +1,10 @@
 -- A run is safe at its start, and a call that is no tick keeps it safe.
-use Rattle.std.proofs.Common.{◌≡◌, ℕ, ◌+◌, ◌-◌, ◌<◌, ◌≤◌, cond, ltb, ◌⊎◌, inl, inr, sym, refl, ap, ◌∙◌, subst, arith}
+use Rattle.std.proofs.Common.{◌≡◌, ℕ, ◌+◌, ◌-◌, ◌<◌, ◌≤◌, cond, ltb, ◌⊎◌, inl, inr, arith}
 use Rattle.std.proofs.lemmas.Bool.Decides.{nat_tests}
-use Rattle.std.proofs.lemmas.Bool.{cases_eq, cases_lt}
-use Rattle.calls.specs.States.{upto, Plan, Accepted, State, Fits, Fresh, need}
+use Rattle.std.proofs.lemmas.Bool.{cases_lt}
+use Rattle.calls.specs.States.{upto, Plan, Accepted, State, Fits, Fresh}
 use Rattle.calls.proofs.Totals.{upto-below, upto-plus, upto-zero, upto-term, upto-last}
-use Rattle.calls.proofs.Facts.{flood, ahead, coming, below, Quiet, Busy, Holding, Sane, Safe}
+use Rattle.calls.proofs.Facts.{flood, ahead, coming, below, Quiet, Busy, Holding, Safe}
 use Rattle.calls.proofs.Easing.{Eased}
 
 -- where no part has backlog, the bound itself is a window that has room for all

@@ -1,8 +1,8 @@
 -- Sums f 1 + .. + f n.
-use Rattle.std.proofs.Common.{◌≡◌, ℕ, zero, suc, ◌+◌, ◌-◌, ◌<◌, ◌≤◌, sym, ap, ◌∙◌, subst, inl, inr, arith}
+use Rattle.std.proofs.Common.{◌≡◌, ℕ, zero, suc, ◌+◌, ◌-◌, ◌<◌, ◌≤◌, sym, ap, subst, inl, inr, arith}
 use Rattle.std.proofs.lemmas.Bool.{cases_lt}
 use Rattle.cycles.specs.Round.{sum}
-use Rattle.cycles.proofs.Rounds.{sum-on, sum_same}
+use Rattle.cycles.proofs.Rounds.{sum-on}
 use Rattle.cycles.proofs.Sums.{sum-plus}
 use Rattle.calls.specs.States.{upto}
 

@@ -1,9 +1,9 @@
 -- The log of a run: its calls with their answers, in order, the oldest first; and what is counted in it.
 use Rattle.std.specs.Prelude.{ℕ, ◌+◌, cond, List, [], ◌∷◌, ◌++◌, ◌==◌}
 use Rattle.calls.specs.declared.Call.{Call}
-use Rattle.calls.specs.declared.Call.TheVariants.{Offer, Release, Hold, LetGo, End, Tick}
+use Rattle.calls.specs.declared.Call.TheVariants.{Offer, Release, Tick}
 use Rattle.calls.specs.declared.Answer.{Answer}
-use Rattle.calls.specs.declared.Answer.TheVariants.{Done, Refused, Ticked}
+use Rattle.calls.specs.declared.Answer.TheVariants.{Done}
 
 -- a call and its answer
 pub record Event : Type 0 where

@@ -1,11 +1,11 @@
 -- The job of a task that is pending, as a log shows it: read off who got what, and not off what answers say of ages.
 use Rattle.std.specs.Prelude.{ℕ, ◌+◌, ◌-◌, cond, List, [], ◌∷◌, Some, None, Option, ◌==◌, nat_le}
 use Rattle.calls.specs.declared.Call.{Call}
-use Rattle.calls.specs.declared.Call.TheVariants.{Offer, Release, Hold, LetGo, End, Tick}
+use Rattle.calls.specs.declared.Call.TheVariants.{Release, End, Tick}
 use Rattle.calls.specs.declared.Got.{Got}
-use Rattle.calls.specs.declared.Got.TheVariants.{Nobody, Part, Task}
+use Rattle.calls.specs.declared.Got.TheVariants.{Task}
 use Rattle.calls.specs.declared.Answer.{Answer}
-use Rattle.calls.specs.declared.Answer.TheVariants.{Done, Refused, Ticked}
+use Rattle.calls.specs.declared.Answer.TheVariants.{Done, Ticked}
 use Rattle.calls.specs.Events.{Event}
 
 -- the units that it still wants, and the ticks since its release
