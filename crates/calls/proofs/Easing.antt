@@ -4,7 +4,7 @@ use Rattle.std.proofs.lemmas.Bool.Decides.{nat_tests}
 use Rattle.std.proofs.lemmas.Bool.{cases_eq, cases_lt, cond-false, ne_eqb}
 use Rattle.source.specs.Facts.{Taken}
 use Rattle.calls.specs.States.{upto, Plan, State}
-use Rattle.calls.specs.Steps.{Offered, Released, Granted, Let-go, Ended}
+use Rattle.calls.specs.Steps.{Offered, Released, Granted, LetGone, Ended}
 use Rattle.calls.proofs.Totals.{upto-zero}
 use Rattle.calls.proofs.Facts.{below, Holding, Sane}
 
@@ -123,7 +123,7 @@ eased-granted p s t i u sane h = subst (λ x. Eased p s x) (sym h.rest) (record 
     none-below j busy (inl l) = (let none : upto s.left j ≡ 0 = upto-zero s.left j (λ k a b. h.highest k a (omega arith)) in absurd (omega arith))
     none-below j busy (inr g) = grind (arith, nat_tests)
 
-pub eased-let-go : (p : Plan) (s t : State) (i : ℕ) → Sane p s → Let-go s i t → Eased p s t
+pub eased-let-go : (p : Plan) (s t : State) (i : ℕ) → Sane p s → LetGone s i t → Eased p s t
 eased-let-go p s t i sane h = subst (λ x. Eased p s x) (sym h.rest) (record {
   flood = λ k m h. omega arith;
   ahead = λ j m h. omega arith;

@@ -6,7 +6,7 @@ use Rattle.calls.specs.declared.Got.TheVariants.{Task}
 use Rattle.calls.specs.declared.Answer.{Answer}
 use Rattle.calls.specs.declared.Answer.TheVariants as answers
 use Rattle.calls.specs.Events.{Event}
-use Rattle.calls.specs.Jobs.{Job, after, carried, job_of, end-age}
+use Rattle.calls.specs.Jobs.{Job, after, carried, job_of, end_age}
 use Rattle.calls.specs.Rules.{NeverLate}
 use Rattle.calls.specs.States.{Plan, Accepted, State, Fits, Fresh}
 use Rattle.calls.specs.Steps.{Step, Leads}
@@ -64,7 +64,7 @@ never-late p s t log ok fresh fits leads = record { pending = pending; ended = e
         let soon : q.0.age i + 1 ≤ p.bound i = in-time p q.0 ok here i task.0 task.1 has.1 in
         (omega (arith, has.0, has.1), omega (arith, has.2, soon))
 
-    ended : (before rest : List Event) (i a : ℕ) → log ≡ before ++ (record { call = Tick; answer = answers.Ticked (Task i a) } ∷ rest) → (a ≡ end-age (job_of i before)) × (a ≤ p.bound i)
+    ended : (before rest : List Event) (i a : ℕ) → log ≡ before ++ (record { call = Tick; answer = answers.Ticked (Task i a) } ∷ rest) → (a ≡ end_age (job_of i before)) × (a ≤ p.bound i)
     ended before rest i a e =
         let q = parted p s t before (record { call = Tick; answer = answers.Ticked (Task i a) } ∷ rest) (subst (λ x. Leads p s x t) e leads) in
         told-in-time p q.0 q.2.0 i a (job_of i before) ok (safe-along p s q.0 before ok safe q.1) q.2.1 (shown q.0 before i q.1)

@@ -8,7 +8,7 @@ use Rattle.calls.specs.declared.Call.{Call}
 use Rattle.calls.specs.declared.Call.TheVariants.{Offer, Release, Hold, LetGo, End, Tick}
 use Rattle.calls.specs.declared.Answer.{Answer}
 use Rattle.calls.specs.declared.Answer.TheVariants as answers
-use Rattle.calls.specs.Events.{Event, tick-in, ticks, part-units, task-units, let-in, let-in_part, let-in_task, then_tick}
+use Rattle.calls.specs.Events.{Event, tick_in, ticks, part_units, task_units, let_in, let_in_part, let_in_task, then_tick}
 use Rattle.calls.specs.Rules.{NeverMore}
 use Rattle.calls.specs.States.{Plan, Accepted, State, Fits, Fresh}
 use Rattle.calls.specs.Steps.{Step, Leads}
@@ -20,12 +20,12 @@ some-tick [] a = omega arith
 some-tick (e ∷ front) a = omega (arith, some-tick front a)
 
 -- an allowance v, of one part or task, of which each call takes the units that it lets in, and each tick one tick
-module _ (p : Plan) (v : State → ℕ → ℕ) (units : Call → Answer → ℕ) (moves : (s t : State) (c : Call) (a : Answer) → Step p s c a t → (l : ℕ) → 1 ≤ tick-in c + l → units c a + v t l ≤ v s (tick-in c + l)) where
-  pub limited : (s t : State) (front : List Event) (a : Answer) → Leads p s (then_tick front a) t → let-in units (then_tick front a) ≤ v s (ticks (then_tick front a))
+module _ (p : Plan) (v : State → ℕ → ℕ) (units : Call → Answer → ℕ) (moves : (s t : State) (c : Call) (a : Answer) → Step p s c a t → (l : ℕ) → 1 ≤ tick_in c + l → units c a + v t l ≤ v s (tick_in c + l)) where
+  pub limited : (s t : State) (front : List Event) (a : Answer) → Leads p s (then_tick front a) t → let_in units (then_tick front a) ≤ v s (ticks (then_tick front a))
   limited s t [] a h = omega (arith, moves s h.0 Tick a h.1 0 (omega arith))
   limited s t (e ∷ front) a h =
       let more : 1 ≤ ticks (then_tick front a) = some-tick front a in
-      let later : let-in units (then_tick front a) ≤ v h.0 (ticks (then_tick front a)) = limited h.0 t front a h.3 in
+      let later : let_in units (then_tick front a) ≤ v h.0 (ticks (then_tick front a)) = limited h.0 t front a h.3 in
       omega (arith, moves s h.0 e.call e.answer h.1 (ticks (then_tick front a)) (omega arith))
 
 taken-view : (f g : ℕ → ℕ → ℕ) (j u k l : ℕ) → Taken f j u g → 1 ≤ l → cond (j == k) u 0 + g k l ≤ f k (0 + l)
@@ -58,7 +58,7 @@ kept-view f g k l e =
     let here : g k l ≡ f k l = (λ x. e x k l) in
     omega arith
 
-part-moves : (p : Plan) (k : ℕ) (s t : State) (c : Call) (a : Answer) → Step p s c a t → (l : ℕ) → 1 ≤ tick-in c + l → part-units k c a + t.bank k l ≤ s.bank k (tick-in c + l)
+part-moves : (p : Plan) (k : ℕ) (s t : State) (c : Call) (a : Answer) → Step p s c a t → (l : ℕ) → 1 ≤ tick_in c + l → part_units k c a + t.bank k l ≤ s.bank k (tick_in c + l)
 part-moves p k s t (Offer j u) answers.Done h l some = taken-view s.bank t.bank j u k l h.taken (omega arith)
 part-moves p k s t (Release j u) answers.Done h l some = kept-view s.bank t.bank k l (ap (λ x. x.bank) h.rest)
 part-moves p k s t (Hold j u) answers.Done h l some = kept-view s.bank t.bank k l (ap (λ x. x.bank) h.rest)
@@ -72,7 +72,7 @@ part-moves p k s t (LetGo j) (answers.Refused e) h l some = kept-view s.bank t.b
 part-moves p k s t (End j) (answers.Refused e) h l some = kept-view s.bank t.bank k l (ap (λ x. x.bank) h)
 part-moves p k s t c a h l some = absurd h
 
-task-moves : (p : Plan) (i : ℕ) (s t : State) (c : Call) (a : Answer) → Step p s c a t → (l : ℕ) → 1 ≤ tick-in c + l → task-units i c a + t.tasks i l ≤ s.tasks i (tick-in c + l)
+task-moves : (p : Plan) (i : ℕ) (s t : State) (c : Call) (a : Answer) → Step p s c a t → (l : ℕ) → 1 ≤ tick_in c + l → task_units i c a + t.tasks i l ≤ s.tasks i (tick_in c + l)
 task-moves p i s t (Offer j u) answers.Done h l some = kept-view s.tasks t.tasks i l (ap (λ x. x.tasks) h.rest)
 task-moves p i s t (Release j u) answers.Done h l some = taken-view s.tasks t.tasks j u i l h.taken (omega arith)
 task-moves p i s t (Hold j u) answers.Done h l some = kept-view s.tasks t.tasks i l (ap (λ x. x.tasks) h.rest)
@@ -86,7 +86,7 @@ task-moves p i s t (LetGo j) (answers.Refused e) h l some = kept-view s.tasks t.
 task-moves p i s t (End j) (answers.Refused e) h l some = kept-view s.tasks t.tasks i l (ap (λ x. x.tasks) h)
 task-moves p i s t c a h l some = absurd h
 
-pub never-more : (p : Plan) (s t : State) (log : List Event) → Accepted p → Fresh s → Fits p s → Leads p s log t → NeverMore p.demand p.task-demand log
+pub never-more : (p : Plan) (s t : State) (log : List Event) → Accepted p → Fresh s → Fits p s → Leads p s log t → NeverMore p.demand p.task_demand log
 never-more p s t log ok fresh fits leads = record { parts = parts; tasks = tasks }
   where
     -- the state at the start of a stretch, and the one at its end
@@ -96,12 +96,12 @@ never-more p s t log ok fresh fits leads = record { parts = parts; tasks = tasks
         let inner = parted p s outer.0 before stretch outer.1 in
         (inner.0, outer.0, (safe-along p s inner.0 before ok (safe_start p s ok fits fresh) inner.1).fits, inner.2)
 
-    parts : (before stretch rest : List Event) (a : Answer) (k : ℕ) → log ≡ before ++ then_tick stretch a ++ rest → let-in_part k (then_tick stretch a) ≤ p.demand k (ticks (then_tick stretch a))
+    parts : (before stretch rest : List Event) (a : Answer) (k : ℕ) → log ≡ before ++ then_tick stretch a ++ rest → let_in_part k (then_tick stretch a) ≤ p.demand k (ticks (then_tick stretch a))
     parts before stretch rest a k e =
         let q = between before (then_tick stretch a) rest e in
-        omega (arith, limited p (λ x. x.bank k) (part-units k) (part-moves p k) q.0 q.1 stretch a q.3, q.2.bank.within k (ticks (then_tick stretch a)))
+        omega (arith, limited p (λ x. x.bank k) (part_units k) (part-moves p k) q.0 q.1 stretch a q.3, q.2.bank.within k (ticks (then_tick stretch a)))
 
-    tasks : (before stretch rest : List Event) (a : Answer) (i : ℕ) → log ≡ before ++ then_tick stretch a ++ rest → let-in_task i (then_tick stretch a) ≤ p.task-demand i (ticks (then_tick stretch a))
+    tasks : (before stretch rest : List Event) (a : Answer) (i : ℕ) → log ≡ before ++ then_tick stretch a ++ rest → let_in_task i (then_tick stretch a) ≤ p.task_demand i (ticks (then_tick stretch a))
     tasks before stretch rest a i e =
         let q = between before (then_tick stretch a) rest e in
-        omega (arith, limited p (λ x. x.tasks i) (task-units i) (task-moves p i) q.0 q.1 stretch a q.3, q.2.tasks.within i (ticks (then_tick stretch a)))
+        omega (arith, limited p (λ x. x.tasks i) (task_units i) (task-moves p i) q.0 q.1 stretch a q.3, q.2.tasks.within i (ticks (then_tick stretch a)))

@@ -5,7 +5,7 @@ use Rattle.std.proofs.lemmas.Bool.{cases_eq, cases_lt}
 use Rattle.calls.specs.declared.Got.{Got}
 use Rattle.calls.specs.declared.Got.TheVariants.{Nobody, Part, Task}
 use Rattle.calls.specs.States.{upto, Plan, Accepted, State, Fits}
-use Rattle.calls.specs.Steps.{Due, Passed, part-unit, task-unit, kept-units}
+use Rattle.calls.specs.Steps.{Due, Passed, part_unit, task_unit, kept_units}
 use Rattle.calls.proofs.Totals.{upto-below, upto-less, upto-plus, upto-zero, upto-term}
 use Rattle.calls.proofs.Facts.{flood, ahead, coming, below, Quiet, Busy, Holding, Sane, Safe}
 use Rattle.calls.proofs.Staying.{quiet_anew}
@@ -24,10 +24,10 @@ below-one i h x u a b c = grind (arith, nat_tests)
 goes-on : (x : ℕ) (b : Bool) → (nat_le 1 x && b) ≡ true → 1 ≤ x
 goes-on x b e = grind (arith, nat_tests)
 
-own-unit : (j a : ℕ) → task-unit (Task j a) j ≡ 1
+own-unit : (j a : ℕ) → task_unit (Task j a) j ≡ 1
 own-unit j a = grind (arith, nat_tests)
 
-own-part : (k : ℕ) → part-unit (Part k) k ≡ 1
+own-part : (k : ℕ) → part_unit (Part k) k ≡ 1
 own-part k = grind (arith, nat_tests)
 
 module _ (p : Plan) (s t : State) (got : Got) (h : Passed p s got t) where
@@ -61,11 +61,11 @@ module _ (p : Plan) (s t : State) (got : Got) (h : Passed p s got t) where
   pub left-falls : (i : ℕ) → upto t.left i ≤ upto s.left i
   left-falls i = upto-below t.left s.left i (λ j b c. omega (arith, h.left j))
 
-  below-kept : (i : ℕ) → below t i ≤ cond (ltb i s.holder) (s.held - task-unit got s.holder) 0
-  below-kept i = below-used i s.holder t.holder s.held t.held (task-unit got s.holder) (nat_le 1 (kept-units s got) && nat_le 1 (t.left s.holder)) h.holder h.held
+  below-kept : (i : ℕ) → below t i ≤ cond (ltb i s.holder) (s.held - task_unit got s.holder) 0
+  below-kept i = below-used i s.holder t.holder s.held t.held (task_unit got s.holder) (nat_le 1 (kept_units s got) && nat_le 1 (t.left s.holder)) h.holder h.held
 
   pub below-passes : (i : ℕ) → below t i ≤ below s i
-  below-passes i = omega (arith, below-kept i, below-fewer i s.holder s.held (task-unit got s.holder))
+  below-passes i = omega (arith, below-kept i, below-fewer i s.holder s.held (task_unit got s.holder))
 
 -- a task that gets the unit has a job
 pub has-job : (p : Plan) (s : State) (i a : ℕ) → Sane p s → Due p s (Task i a) → (i ≤ p.tasks) × (1 ≤ s.left i)
@@ -85,8 +85,8 @@ module _ (p : Plan) (s t : State) (k : ℕ) (h : Passed p s (Part k) t) where
       here : t.backlog k + t.bank k (m - 1) + 1 ≤ s.backlog k + s.bank k m
       here =
           let some : 1 ≤ s.backlog k = h.due.2 in
-          let unit : part-unit (Part k) k ≡ 1 = own-part k in
-          let new : t.backlog k ≡ s.backlog k - part-unit (Part k) k = h.backlog k in
+          let unit : part_unit (Part k) k ≡ 1 = own-part k in
+          let new : t.backlog k ≡ s.backlog k - part_unit (Part k) k = h.backlog k in
           let less : t.bank k (m - 1) ≤ s.bank k m = bank-shorter p s t (Part k) h k m a in
           omega arith
 
@@ -99,17 +99,17 @@ module _ (p : Plan) (s t : State) (j a : ℕ) (sane : Sane p s) (h : Passed p s 
       here : t.left j + t.tasks j (m - 1) + 1 ≤ s.left j + s.tasks j m
       here =
           let some : 1 ≤ s.left j = (has-job p s j a sane h.due).1 in
-          let unit : task-unit (Task j a) j ≡ 1 = own-unit j a in
-          let new : t.left j ≡ s.left j - task-unit (Task j a) j = h.left j in
+          let unit : task_unit (Task j a) j ≡ 1 = own-unit j a in
+          let new : t.left j ≡ s.left j - task_unit (Task j a) j = h.left j in
           let less : t.tasks j (m - 1) ≤ s.tasks j m = tasks-shorter p s t (Task j a) h j m c in
           omega arith
 
   pub below-served : (i : ℕ) → s.holder ≡ j → i < j → below t i + 1 ≤ below s i
   below-served i e l =
-      let kept : below t i ≤ cond (ltb i s.holder) (s.held - task-unit (Task j a) s.holder) 0 = below-kept p s t (Task j a) h i in
-      let unit : task-unit (Task j a) s.holder ≡ 1 = ap (task-unit (Task j a)) e ∙ own-unit j a in
+      let kept : below t i ≤ cond (ltb i s.holder) (s.held - task_unit (Task j a) s.holder) 0 = below-kept p s t (Task j a) h i in
+      let unit : task_unit (Task j a) s.holder ≡ 1 = ap (task_unit (Task j a)) e ∙ own-unit j a in
       let some : 1 ≤ s.held = held sane.hold in
-      omega (arith, below-one i s.holder s.held (task-unit (Task j a) s.holder) (omega arith) some (omega arith))
+      omega (arith, below-one i s.holder s.held (task_unit (Task j a) s.holder) (omega arith) some (omega arith))
     where
       held : Holding p s.left s.holder s.held → 1 ≤ s.held
       held (inl x) = absurd (omega arith)
@@ -214,17 +214,17 @@ module _ (p : Plan) (s : State) (ok : Accepted p) (safe : Safe p s) where
     zeroth = omega (arith, h.left 0, safe.sane.zeroth);
     outside = λ i out. omega (arith, h.left i, safe.sane.outside i out);
     ageless = λ i none. (let new = h.age i in grind (arith, nat_tests));
-    hold = holds safe.sane.hold (nat_le 1 (kept-units s got) && nat_le 1 (t.left s.holder)) refl h.holder h.held;
+    hold = holds safe.sane.hold (nat_le 1 (kept_units s got) && nat_le 1 (t.left s.holder)) refl h.holder h.held;
   }
     where
-      holds : Holding p s.left s.holder s.held → (b : Bool) → (nat_le 1 (kept-units s got) && nat_le 1 (t.left s.holder)) ≡ b → t.holder ≡ cond b s.holder 0 → t.held ≡ cond b (kept-units s got) 0 → Holding p t.left t.holder t.held
+      holds : Holding p s.left s.holder s.held → (b : Bool) → (nat_le 1 (kept_units s got) && nat_le 1 (t.left s.holder)) ≡ b → t.holder ≡ cond b s.holder 0 → t.held ≡ cond b (kept_units s got) 0 → Holding p t.left t.holder t.held
       holds was false e x y = inl (x, y)
-      holds (inl was) true e x y = (let some : 1 ≤ kept-units s got = goes-on (kept-units s got) (nat_le 1 (t.left s.holder)) e in absurd (omega arith))
+      holds (inl was) true e x y = (let some : 1 ≤ kept_units s got = goes-on (kept_units s got) (nat_le 1 (t.left s.holder)) e in absurd (omega arith))
       holds (inr was) true e x y =
-          let some : 1 ≤ kept-units s got = goes-on (kept-units s got) (nat_le 1 (t.left s.holder)) e in
+          let some : 1 ≤ kept_units s got = goes-on (kept_units s got) (nat_le 1 (t.left s.holder)) e in
           let short : p.hold t.holder ≡ p.hold s.holder = ap p.hold x in
           let left : t.left t.holder ≡ t.left s.holder = ap t.left x in
-          let new : t.left s.holder ≡ s.left s.holder - task-unit got s.holder = h.left s.holder in
+          let new : t.left s.holder ≡ s.left s.holder - task_unit got s.holder = h.left s.holder in
           inr (omega arith, omega arith, omega arith, omega arith, omega arith)
 
   pub safe-passed : (t : State) (got : Got) → Passed p s got t → Fits p t → Safe p t

@@ -8,7 +8,7 @@ use Rattle.calls.specs.declared.Got.{Got}
 use Rattle.calls.specs.declared.Got.TheVariants.{Nobody, Part, Task}
 use Rattle.calls.specs.declared.Answer.{Answer}
 use Rattle.calls.specs.declared.Answer.TheVariants as answers
-use Rattle.calls.specs.Jobs.{Job, older, served, ticked, after, end-age}
+use Rattle.calls.specs.Jobs.{Job, older, served, ticked, after, end_age}
 use Rattle.calls.specs.States.{Plan, Accepted, State}
 use Rattle.calls.specs.Steps.{Released, Ended, Passed, Step}
 use Rattle.calls.proofs.Facts.{Safe}
@@ -95,7 +95,7 @@ shown-after p s t (End k) (answers.Refused e) i job ok safe h shown = shown-rest
 shown-after p s t c a i job ok safe h shown = absurd h
 
 -- a tick tells the age of the job that it ended, and that is within the bound
-pub told-in-time : (p : Plan) (s t : State) (i a : ℕ) (job : Option Job) → Accepted p → Safe p s → Passed p s (Task i a) t → Shown job (s.left i) (s.age i) → (a ≡ end-age job) × (a ≤ p.bound i)
+pub told-in-time : (p : Plan) (s t : State) (i a : ℕ) (job : Option Job) → Accepted p → Safe p s → Passed p s (Task i a) t → Shown job (s.left i) (s.age i) → (a ≡ end_age job) × (a ≤ p.bound i)
 told-in-time p s t i a job ok safe h shown = (exact job shown, within)
   where
     some : 1 ≤ s.left i
@@ -107,7 +107,7 @@ told-in-time p s t i a job ok safe h shown = (exact job shown, within)
     told : a ≡ cond (nat_le (s.left i) 1) (s.age i + 1) 0
     told = h.told ∙ ap (λ x. cond (nat_le (s.left i) 1) x 0) old
 
-    exact : (job : Option Job) → Shown job (s.left i) (s.age i) → a ≡ end-age job
+    exact : (job : Option Job) → Shown job (s.left i) (s.age i) → a ≡ end_age job
     exact None e = absurd (omega (arith, some))
     exact (Some job) e = told ∙ (λ x. cond (nat_le (sym e.0 x) 1) (sym e.2 x + 1) 0)
 

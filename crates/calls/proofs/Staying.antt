@@ -11,10 +11,10 @@ use Rattle.calls.proofs.Easing.{Eased}
 pub quiet_anew : (p : Plan) (s : State) (i : ℕ) → Accepted p → Fits p s → 1 ≤ i → i ≤ p.tasks → ((k : ℕ) → 1 ≤ k → k ≤ p.parts → s.backlog k ≡ 0) → Quiet p s i (p.bound i)
 quiet_anew p s i ok fits a b none =
     let banks : flood p s (p.bound i) ≤ upto (λ k. p.demand k (p.bound i)) p.parts = upto-below (λ k. s.backlog k + s.bank k (p.bound i)) (λ k. p.demand k (p.bound i)) p.parts (λ k c d. omega (arith, none k c d, fits.bank.within k (p.bound i))) in
-    let others : upto (λ j. s.tasks j (p.bound i)) (i - 1) ≤ upto (λ j. p.task-demand j (p.bound i)) (i - 1) = upto-below (λ j. s.tasks j (p.bound i)) (λ j. p.task-demand j (p.bound i)) (i - 1) (λ j c d. fits.tasks.within j (p.bound i)) in
+    let others : upto (λ j. s.tasks j (p.bound i)) (i - 1) ≤ upto (λ j. p.task_demand j (p.bound i)) (i - 1) = upto-below (λ j. s.tasks j (p.bound i)) (λ j. p.task_demand j (p.bound i)) (i - 1) (λ j c d. fits.tasks.within j (p.bound i)) in
     let last : coming s i (p.bound i) ≡ upto (λ j. s.tasks j (p.bound i)) (i - 1) + s.tasks i (p.bound i) = upto-last (λ j. s.tasks j (p.bound i)) i a in
     let own : s.tasks i (p.bound i) ≤ p.cost i = fits.one i (p.bound i) a b (omega arith) in
-    let room : p.blocking i + p.cost i + upto (λ k. p.demand k (p.bound i)) p.parts + upto (λ j. p.task-demand j (p.bound i)) (i - 1) ≤ p.bound i = ok.holds i a b in
+    let room : p.blocking i + p.cost i + upto (λ k. p.demand k (p.bound i)) p.parts + upto (λ j. p.task_demand j (p.bound i)) (i - 1) ≤ p.bound i = ok.holds i a b in
     record { some = ok.some i a b; soon = omega arith; fits = omega arith }
 
 pub safe_start : (p : Plan) (s : State) → Accepted p → Fits p s → Fresh s → Safe p s

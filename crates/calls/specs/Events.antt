@@ -17,36 +17,36 @@ log_of (c ∷ calls) [] = []
 log_of (c ∷ calls) (a ∷ answers) = record { call = c; answer = a } ∷ log_of calls answers
 
 -- 1 for a tick, 0 for any other call
-abbrev pub tick-in : Call → ℕ
-tick-in Tick = 1
-tick-in _ = 0
+abbrev pub tick_in : Call → ℕ
+tick_in Tick = 1
+tick_in _ = 0
 
 -- how many of the calls are ticks
 abbrev pub ticks : List Event → ℕ
 ticks [] = 0
-ticks (e ∷ log) = tick-in e.call + ticks log
+ticks (e ∷ log) = tick_in e.call + ticks log
 
 -- the units that a call with that answer lets in for part k: those of an offer to it that was done
-abbrev pub part-units : ℕ → Call → Answer → ℕ
-part-units k (Offer j u) Done = cond (j == k) u 0
-part-units k _ _ = 0
+abbrev pub part_units : ℕ → Call → Answer → ℕ
+part_units k (Offer j u) Done = cond (j == k) u 0
+part_units k _ _ = 0
 
 -- and for task i: those of a release of it that was done
-abbrev pub task-units : ℕ → Call → Answer → ℕ
-task-units i (Release j u) Done = cond (j == i) u 0
-task-units i _ _ = 0
+abbrev pub task_units : ℕ → Call → Answer → ℕ
+task_units i (Release j u) Done = cond (j == i) u 0
+task_units i _ _ = 0
 
 -- what all of the calls let in, where a call with its answer lets in so many units
-abbrev pub let-in : (Call → Answer → ℕ) → List Event → ℕ
-let-in units [] = 0
-let-in units (e ∷ log) = units e.call e.answer + let-in units log
+abbrev pub let_in : (Call → Answer → ℕ) → List Event → ℕ
+let_in units [] = 0
+let_in units (e ∷ log) = units e.call e.answer + let_in units log
 
 -- for part k, and for task i
-abbrev pub let-in_part : ℕ → List Event → ℕ
-let-in_part k log = let-in (part-units k) log
+abbrev pub let_in_part : ℕ → List Event → ℕ
+let_in_part k log = let_in (part_units k) log
 
-abbrev pub let-in_task : ℕ → List Event → ℕ
-let-in_task i log = let-in (task-units i) log
+abbrev pub let_in_task : ℕ → List Event → ℕ
+let_in_task i log = let_in (task_units i) log
 
 -- these calls, and then a tick with that answer
 abbrev pub then_tick : List Event → Answer → List Event

@@ -47,6 +47,6 @@ abbrev pub job_of : ℕ → List Event → Option Job
 job_of i log = carried i None log
 
 -- the age at which a job ends that gets a unit in a tick, this tick included: 0 if that is not its last unit
-abbrev pub end-age : Option Job → ℕ
-end-age None = 0
-end-age (Some j) = cond (nat_le j.left 1) (j.age + 1) 0
+abbrev pub end_age : Option Job → ℕ
+end_age None = 0
+end_age (Some j) = cond (nat_le j.left 1) (j.age + 1) 0

@@ -14,7 +14,7 @@ pub record Plan : Type 0 where
   pub parts : ℕ
   pub demand : ℕ → ℕ → ℕ
   pub tasks : ℕ
-  pub task-demand : ℕ → ℕ → ℕ
+  pub task_demand : ℕ → ℕ → ℕ
   pub blocking : ℕ → ℕ
   pub hold : ℕ → ℕ
   pub cost : ℕ → ℕ
@@ -24,7 +24,7 @@ pub record Plan : Type 0 where
 -- what a window of l ticks has to hold for task i: its blocking, its largest cost, the demand of the bank and that of the
 -- tasks before it
 abbrev pub need : Plan → ℕ → ℕ → ℕ
-need p i l = p.blocking i + p.cost i + upto (λ k. p.demand k l) p.parts + upto (λ j. p.task-demand j l) (i - 1)
+need p i l = p.blocking i + p.cost i + upto (λ k. p.demand k l) p.parts + upto (λ j. p.task_demand j l) (i - 1)
 
 -- each task has a window of at least a tick that holds its need, the bound, and none has a longer hold than the blocking of
 -- a task before it
@@ -49,7 +49,7 @@ pub record State : Type 0 where
 -- cost within its bound
 pub record Fits (p : Plan) (s : State) : Type 0 where
   pub bank : Sound p.parts p.demand s.bank
-  pub tasks : Sound p.tasks p.task-demand s.tasks
+  pub tasks : Sound p.tasks p.task_demand s.tasks
   pub one : (i l : ℕ) → 1 ≤ i → i ≤ p.tasks → l ≤ p.bound i → s.tasks i l ≤ p.cost i
 
 -- a run at its start: no backlog, no job and no hold

@@ -40,7 +40,7 @@ pub record Granted (p : Plan) (s : State) (i u : ℕ) (t : State) : Type 0 where
   pub rest : t ≡ record s { holder = i; held = u }
 
 -- the holder lets go
-pub record Let-go (s : State) (i : ℕ) (t : State) : Type 0 where
+pub record LetGone (s : State) (i : ℕ) (t : State) : Type 0 where
   pub holds : s.holder ≡ i
   pub rest : t ≡ record s { holder = 0; held = 0 }
 
@@ -65,34 +65,34 @@ Due p s (Task i a) = Idle p s × (1 ≤ i) × ((s.holder ≡ i) ⊎ ((s.holder �
 Due p s Nobody = Idle p s × (s.holder ≡ 0) × ((i : ℕ) → 1 ≤ i → i ≤ p.tasks → s.left i ≡ 0)
 
 -- 1 for the part that got the unit, 0 for any other
-abbrev pub part-unit : Got → ℕ → ℕ
-part-unit (Part j) k = cond (k == j) 1 0
-part-unit _ k = 0
+abbrev pub part_unit : Got → ℕ → ℕ
+part_unit (Part j) k = cond (k == j) 1 0
+part_unit _ k = 0
 
 -- 1 for the task that got the unit, 0 for any other
-abbrev pub task-unit : Got → ℕ → ℕ
-task-unit (Task j a) i = cond (i == j) 1 0
-task-unit _ i = 0
+abbrev pub task_unit : Got → ℕ → ℕ
+task_unit (Task j a) i = cond (i == j) 1 0
+task_unit _ i = 0
 
 -- the age that the answer tells: that of the job that ended with the unit, this tick included, or 0
-abbrev pub Age-told : Plan → State → Got → Type 0
-Age-told p s (Task i a) = a ≡ cond (nat_le (s.left i) 1) (min (s.age i + 1) p.cap) 0
-Age-told p s _ = Unit
+abbrev pub AgeTold : Plan → State → Got → Type 0
+AgeTold p s (Task i a) = a ≡ cond (nat_le (s.left i) 1) (min (s.age i + 1) p.cap) 0
+AgeTold p s _ = Unit
 
 -- the units of its hold that the holder keeps: one fewer if it got the unit
-abbrev pub kept-units : State → Got → ℕ
-kept-units s got = s.held - task-unit got s.holder
+abbrev pub kept_units : State → Got → ℕ
+kept_units s got = s.held - task_unit got s.holder
 
 -- a tick: that one gets the unit, every job that is still pending is a tick older, a hold with no units or of a task with
 -- no job any more is over, and the bank and the tasks tick
 pub record Passed (p : Plan) (s : State) (got : Got) (t : State) : Type 0 where
   pub due : Due p s got
-  pub told : Age-told p s got
-  pub backlog : (k : ℕ) → t.backlog k ≡ s.backlog k - part-unit got k
-  pub left : (i : ℕ) → t.left i ≡ s.left i - task-unit got i
+  pub told : AgeTold p s got
+  pub backlog : (k : ℕ) → t.backlog k ≡ s.backlog k - part_unit got k
+  pub left : (i : ℕ) → t.left i ≡ s.left i - task_unit got i
   pub age : (i : ℕ) → t.age i ≡ cond (nat_le 1 (t.left i)) (min (s.age i + 1) p.cap) 0
-  pub holder : t.holder ≡ cond (nat_le 1 (kept-units s got) && nat_le 1 (t.left s.holder)) s.holder 0
-  pub held : t.held ≡ cond (nat_le 1 (kept-units s got) && nat_le 1 (t.left s.holder)) (kept-units s got) 0
+  pub holder : t.holder ≡ cond (nat_le 1 (kept_units s got) && nat_le 1 (t.left s.holder)) s.holder 0
+  pub held : t.held ≡ cond (nat_le 1 (kept_units s got) && nat_le 1 (t.left s.holder)) (kept_units s got) 0
   pub bank : Ticked s.bank t.bank
   pub tasks : Ticked s.tasks t.tasks
 
@@ -101,7 +101,7 @@ abbrev pub Step : Plan → State → Call → Answer → State → Type 0
 Step p s (Offer k u) answers.Done t = Offered s k u t
 Step p s (Release i u) answers.Done t = Released p s i u t
 Step p s (Hold i u) answers.Done t = Granted p s i u t
-Step p s (LetGo i) answers.Done t = Let-go s i t
+Step p s (LetGo i) answers.Done t = LetGone s i t
 Step p s (End i) answers.Done t = Ended s i t
 Step p s Tick (answers.Ticked got) t = Passed p s got t
 Step p s Tick _ t = ⊥
