@@ -25,7 +25,7 @@ reads_at w k (x ∷ p) h (suc i) lt =
     let on : k + suc i ≡ (k + 1) + i = omega arith in
     ap (λ j. get_or w j 0) on ∙ reads_at w (k + 1) p (and_parts (eqb (get_or w k 0) x) (reads w (k + 1) p) h).1 i (omega arith)
 
-same-is : (w p : List ℕ) → same w p ≡ true → w ≡ p
+pub same-is : (w p : List ℕ) → same w p ≡ true → w ≡ p
 same-is w p h =
     let parts = and_parts (eqb (length w) (length p)) (reads w 0 p) h in
     let long : length w ≡ length p = eqb-true (length w) (length p) parts.0 in
@@ -61,11 +61,11 @@ numbers_on w ws ns (Some n) (Some ms) v more e =
       sym (ap all_small are) ∙ and_from (leb n 1000000) (all_small ms) (le-leb n 1000000 one.1) others.1,
     )
 
-numbers-told : (ws : List (List ℕ)) (ns : List ℕ) → numbers_of ws ≡ Some ns → (ws ≡ map decimal ns) × (all_small ns ≡ true)
+pub numbers-told : (ws : List (List ℕ)) (ns : List ℕ) → numbers_of ws ≡ Some ns → (ws ≡ map decimal ns) × (all_small ns ≡ true)
 numbers-told [] ns e = let are : ◌≡◌ {A = List ℕ} [] ns = cc in (ap (map decimal) are, sym (ap all_small are))
 numbers-told (w ∷ ws) ns e = numbers_on w ws ns (value_of w) (numbers_of ws) refl (numbers-told ws) e
 
-numbers-back : (ns : List ℕ) → all_small ns ≡ true → numbers_of (map decimal ns) ≡ Some ns
+pub numbers-back : (ns : List ℕ) → all_small ns ≡ true → numbers_of (map decimal ns) ≡ Some ns
 numbers-back [] h = refl
 numbers-back (n ∷ ns) h =
     let parts = and_parts (leb n 1000000) (all_small ns) h in
@@ -149,10 +149,15 @@ numbers-lack (n ∷ ns) h =
     let parts = and_parts (leb n 1000000) (all_small ns) h in
     and_from (lacks 32 (decimal n)) (all_lack 32 (map decimal ns)) (decimal-lacks-space n (leb-true n 1000000 parts.0)) (numbers-lack ns parts.1)
 
+-- a word and numbers are the pieces of the line that they give
+pub pieces-words : (w ns : List ℕ) → lacks 32 w ≡ true → all_small ns ≡ true → pieces 32 (joined 32 (w ∷ map decimal ns)) ≡ w ∷ map decimal ns
+pieces-words w ns bare small =
+    let ws = w ∷ map decimal ns in
+    let apart = and_from (lacks 32 w) (all_lack 32 (map decimal ns)) bare (numbers-lack ns small) in
+    sym ((only-cut 32 (joined 32 ws)).1 ws (record { some = omega arith; apart = apart; whole = refl }))
+
 pieces-written : (s : Said) → Sayable s → pieces 32 (written s) ≡ words-for s
-pieces-written s h =
-    let apart = and_from (lacks 32 (spelling (kind s))) (all_lack 32 (map decimal (numbers s))) (spelling-lacks (kind s)) (numbers-lack (numbers s) h.0) in
-    sym ((only-cut 32 (written s)).1 (words-for s) (record { some = omega arith; apart = apart; whole = refl }))
+pieces-written s h = pieces-words (spelling (kind s)) (numbers s) (spelling-lacks (kind s)) h.0
 
 -- and they are words
 spelling-good : (k : Kind) → is_some (word_of (spelling k)) ≡ true

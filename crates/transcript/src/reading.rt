@@ -1,0 +1,110 @@
+// From a line to its call.
+ghost use Rattle.std.specs.Prelude.{◌≡◌, length, if◌then◌else◌, Some, None, MatchOption, nat_eq};
+ghost use Rattle.lines.specs.Numbers.{front, behind, numbers_after};
+ghost use Rattle.transcript.specs.Calls.{verb_of, one, two, call_with, read_call, CallRule};
+
+use calls::Call;
+use words::number::number_of;
+use words::split::first_word;
+
+// The keywords with which a line begins.
+#[derive(Clone, Copy, PartialEq, Eq, Debug)]
+enum Verb {
+    Offer,
+    Release,
+    Hold,
+    LetGo,
+    End,
+    Tick,
+}
+
+// The keyword that a word is.
+fn verb_of(word: &[u8]) -> Option<Verb>
+    ensures { result ≡ verb_of word.now }
+{
+    match word {
+        [b'o', b'f', b'f', b'e', b'r'] => Some(Verb::Offer),
+        [b'r', b'e', b'l', b'e', b'a', b's', b'e'] => Some(Verb::Release),
+        [b'h', b'o', b'l', b'd'] => Some(Verb::Hold),
+        [b'l', b'e', b't', b'g', b'o'] => Some(Verb::LetGo),
+        [b'e', b'n', b'd'] => Some(Verb::End),
+        [b't', b'i', b'c', b'k'] => Some(Verb::Tick),
+        _ => None,
+    }
+}
+
+// The number after the space with which the rest of a line begins, and what follows it.
+fn number(rest: &[u8]) -> Option<(u32, &[u8])>
+    ensures { MatchOption result (front rest.now ≡ None) (λ p. (front rest.now ≡ Some p.0) × (p.1.now ≡ behind rest.now)) }
+{
+    if rest.is_empty() {
+        return None;
+    }
+    let (word, after) = first_word(&rest[1..]);
+    let number = number_of(word)?;
+    Some((number, after))
+}
+
+// The one number on the rest of a line.
+fn one_number(rest: &[u8]) -> Option<u32>
+    ensures { result ≡ one (numbers_after rest.now) }
+{
+    let (number, rest) = number(rest)?;
+    if rest.is_empty() { Some(number) } else { None }
+}
+
+// The two numbers on the rest of a line.
+fn two_numbers(rest: &[u8]) -> Option<(u32, u32)>
+    ensures { result ≡ two (numbers_after rest.now) }
+{
+    let (first, rest) = number(rest)?;
+    let (second, rest) = number(rest)?;
+    if rest.is_empty() {
+        Some((first, second))
+    } else {
+        None
+    }
+}
+
+// The call of a keyword, from the part of the line after it.
+fn call_with(verb: Verb, rest: &[u8]) -> Option<Call>
+    ensures { result ≡ call_with (Some verb) (numbers_after rest.now) }
+{
+    match verb {
+        Verb::Offer => {
+            let (part, units) = two_numbers(rest)?;
+            Some(Call::Offer(part, u64::from(units)))
+        }
+        Verb::Release => {
+            let (task, units) = two_numbers(rest)?;
+            Some(Call::Release(task, u64::from(units)))
+        }
+        Verb::Hold => {
+            let (task, units) = two_numbers(rest)?;
+            Some(Call::Hold(task, u64::from(units)))
+        }
+        Verb::LetGo => {
+            let task = one_number(rest)?;
+            Some(Call::LetGo(task))
+        }
+        Verb::End => {
+            let task = one_number(rest)?;
+            Some(Call::End(task))
+        }
+        Verb::Tick => if rest.is_empty() {
+            Some(Call::Tick)
+        } else {
+            None
+        },
+    }
+}
+
+// The call on a line, if it is the line of one.
+pub fn call_of(line: &[u8]) -> Option<Call>
+    ensures call { result ≡ read_call line.now }
+    ensures rule { CallRule line.now }
+{
+    let (word, rest) = first_word(line);
+    let verb = verb_of(word)?;
+    call_with(verb, rest)
+}
