@@ -6,6 +6,7 @@ mod marks;
 mod pieces;
 mod write;
 
+pub use lines::layer_name;
 pub use marks::{Listing, Marks, TaskMark};
 pub use write::{ROOM, write_listing};
 

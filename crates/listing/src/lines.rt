@@ -72,16 +72,16 @@ fn put_task(buffer: &mut [u8], at: usize, number: u32, mark: TaskMark) -> usize
 }
 
 // The name of a layer.
-fn layer_name(layer: Layer) -> &'static [u8]
+pub fn layer_name(layer: Layer) -> &'static str
     ensures { result.now ≡ layer_name layer }
 {
     match layer {
-        Layer::Words => b"words",
-        Layer::Lines => b"lines",
-        Layer::Plan => b"plan",
-        Layer::Judge => b"judge",
-        Layer::Run => b"run",
-        Layer::List => b"list",
+        Layer::Words => "words",
+        Layer::Lines => "lines",
+        Layer::Plan => "plan",
+        Layer::Judge => "judge",
+        Layer::Run => "run",
+        Layer::List => "list",
     }
 }
 
@@ -101,7 +101,7 @@ pub(crate) fn put_refusal(buffer: &mut [u8], at: usize, refusal: Refusal) -> usi
             Piece::Fixed(b"refused "),
             Piece::Number(number),
             Piece::Fixed(b" "),
-            Piece::Fixed(layer),
+            Piece::Fixed(layer.as_bytes()),
             Piece::Fixed(b" "),
             Piece::Number(line),
             Piece::Fixed(b"\n"),

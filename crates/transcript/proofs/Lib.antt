@@ -1,1 +1,2 @@
+pub mod Ending
 pub mod Written

@@ -2,5 +2,10 @@
 #![tactic(auto)]
 
 mod reading;
+mod telling;
 
 pub use reading::call_of;
+pub use telling::Line;
+
+#[cfg(test)]
+mod tests;

@@ -50,7 +50,7 @@ fn one_number(rest: &[u8]) -> Option<u32>
     ensures { result ≡ one (numbers_after rest.now) }
 {
     let (number, rest) = number(rest)?;
-    if rest.is_empty() { Some(number) } else { None }
+    rest.is_empty().then_some(number)
 }
 
 // The two numbers on the rest of a line.
@@ -59,11 +59,7 @@ fn two_numbers(rest: &[u8]) -> Option<(u32, u32)>
 {
     let (first, rest) = number(rest)?;
     let (second, rest) = number(rest)?;
-    if rest.is_empty() {
-        Some((first, second))
-    } else {
-        None
-    }
+    rest.is_empty().then_some((first, second))
 }
 
 // The call of a keyword, from the part of the line after it.
@@ -91,11 +87,7 @@ fn call_with(verb: Verb, rest: &[u8]) -> Option<Call>
             let task = one_number(rest)?;
             Some(Call::End(task))
         }
-        Verb::Tick => if rest.is_empty() {
-            Some(Call::Tick)
-        } else {
-            None
-        },
+        Verb::Tick => rest.is_empty().then_some(Call::Tick),
     }
 }
 

@@ -1,8 +1,9 @@
-use Rattle.std.proofs.Common.{◌≡◌, eqb, length, true, false, Some, None, sym, refl, ◌∙◌, rules}
-use Rattle.std.proofs.lemmas.Bool.{cond-true, cond-false}
+use Rattle.std.proofs.Common.{Some, None, sym, refl, ap, ◌∙◌}
+use Rattle.std.specs.Bool.{then_some}
 use Rattle.lines.specs.Numbers.{followed_by}
-use Rattle.lines.proofs.Values.{number-on, number-missing, number-end}
+use Rattle.lines.proofs.Values.{number-on, number-missing}
 use Rattle.transcript.specs.Calls.{two}
+use Rattle.transcript.proofs.Ending.{given-at-end}
 use Rattle.transcript.proofs.reading.two_numbers.Goals as goal
 
 pub returns-in_err-first : goal.returns-in_err-first
@@ -17,24 +18,13 @@ returns-in_err-second c =
     ∙ sym (number-on two c.args.rest.now c.in_ok-first.rest.now n c.in_ok-first.ensures.0 c.in_ok-first.ensures.1
     ∙ number-missing (λ o. two (followed_by (Some n) o)) c.in_ok-first.rest.now None refl refl c.in_err-second.ensures)
 
-pub returns-then-is_empty : goal.returns-then-is_empty
-returns-then-is_empty c =
+pub returns : goal.returns
+returns c =
     let n = c.in_ok-first.first in
     let m = c.in_ok-second.second in
     let rest = c.in_ok-second.rest.now in
-    let none : eqb (length rest) 0 ≡ true = search rules in
-    sym (number-on two c.args.rest.now c.in_ok-first.rest.now n c.in_ok-first.ensures.0 c.in_ok-first.ensures.1
-    ∙ number-on (λ o. two (followed_by (Some n) o)) c.in_ok-first.rest.now rest m c.in_ok-second.ensures.0 c.in_ok-second.ensures.1
-    ∙ number-end (λ o. two (followed_by (Some n) (followed_by (Some m) o))) rest None refl (λ k ns. refl)
-    ∙ cond-true (eqb (length rest) 0) (Some (n, m)) None none)
-
-pub returns-else-is_empty : goal.returns-else-is_empty
-returns-else-is_empty c =
-    let n = c.in_ok-first.first in
-    let m = c.in_ok-second.second in
-    let rest = c.in_ok-second.rest.now in
-    let more : eqb (length rest) 0 ≡ false = search rules in
-    sym (number-on two c.args.rest.now c.in_ok-first.rest.now n c.in_ok-first.ensures.0 c.in_ok-first.ensures.1
-    ∙ number-on (λ o. two (followed_by (Some n) o)) c.in_ok-first.rest.now rest m c.in_ok-second.ensures.0 c.in_ok-second.ensures.1
-    ∙ number-end (λ o. two (followed_by (Some n) (followed_by (Some m) o))) rest None refl (λ k ns. refl)
-    ∙ cond-false (eqb (length rest) 0) (Some (n, m)) None more)
+    c.then_some.ensures
+    ∙ ap (λ b. then_some b (n, m)) c.is_empty.ensures
+    ∙ given-at-end (λ o. two (followed_by (Some n) (followed_by (Some m) o))) rest (n, m) refl refl (λ k ns. refl)
+    ∙ sym (number-on two c.args.rest.now c.in_ok-first.rest.now n c.in_ok-first.ensures.0 c.in_ok-first.ensures.1
+    ∙ number-on (λ o. two (followed_by (Some n) o)) c.in_ok-first.rest.now rest m c.in_ok-second.ensures.0 c.in_ok-second.ensures.1)

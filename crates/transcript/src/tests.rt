@@ -1,0 +1,97 @@
+// Lines written out by hand.
+use crate::*;
+use calls::{Answer, Call, Got};
+use refusal::{Fault, Refusal};
+use std::alloc::Global;
+use std::process::Abort;
+use std::test::Fail;
+
+// The answer prints as this text.
+fn expect(rt: &impl Abort, alloc: Global, answer: Answer, text: &str) -> Result<(), Fail> {
+    let printed = Line(answer).to_string(alloc)?;
+    assert!(rt; printed.as_str() == text);
+    Ok(())
+}
+
+#[test]
+fn lines_of_calls(rt: HostRuntime) {
+    let table: [(&[u8], Call); 10] = [
+        (b"offer 2 30", Call::Offer(2, 30)),
+        (b"release 16 7", Call::Release(16, 7)),
+        (b"hold 1 5", Call::Hold(1, 5)),
+        (b"letgo 9", Call::LetGo(9)),
+        (b"end 12", Call::End(12)),
+        (b"tick", Call::Tick),
+        (b"offer 0 0", Call::Offer(0, 0)),
+        (b"release 1000000 1000000", Call::Release(1000000, 1000000)),
+        (b"letgo 0", Call::LetGo(0)),
+        (b"end 1000000", Call::End(1000000)),
+    ];
+    for row in &table {
+        assert!(rt; call_of(row.0) == Some(row.1));
+    }
+}
+
+#[test]
+fn lines_of_no_call(rt: HostRuntime) {
+    let table: [&[u8]; 24] = [
+        b"",
+        b" ",
+        b"offer 1000001 1",
+        b"hold 1 1000001",
+        b"end 4294967297",
+        b"release 01 1",
+        b"letgo 00",
+        b"offer  1 2",
+        b"offer 1  2",
+        b" tick",
+        b"tick ",
+        b"end 1 ",
+        b"Tick",
+        b"END 1",
+        b"offer",
+        b"offer 1",
+        b"hold 1 2 3",
+        b"letgo",
+        b"end 1 2",
+        b"tick 1",
+        b"ticks",
+        b"let go 1",
+        b"end -1",
+        b"end 1\n",
+    ];
+    for line in &table {
+        assert!(rt; call_of(line) == None);
+    }
+}
+
+#[test]
+fn answers(rt: HostRuntime) -> Result<(), Fail> {
+    let table: [(Answer, &str); 9] = [
+        (Answer::Done, "done"),
+        (Answer::Ticked(Got::Nobody), "tick nobody"),
+        (Answer::Ticked(Got::Part(1)), "tick part 1"),
+        (Answer::Ticked(Got::Task(2, 0)), "tick task 2"),
+        (Answer::Ticked(Got::Task(2, 7)), "tick task 2 ended 7"),
+        (
+            Answer::Refused(Refusal::new(Fault::JobPending, 0, 3)),
+            "refused 17 run 0 task 3",
+        ),
+        (
+            Answer::Refused(Refusal::plain(Fault::NotAccepted)),
+            "refused 11 run 0 task 0",
+        ),
+        (
+            Answer::Refused(Refusal::new(Fault::Misfit, 5, 2)),
+            "refused 7 plan 5 task 2",
+        ),
+        (
+            Answer::Refused(Refusal::plain(Fault::SheetTooLong)),
+            "refused 1 words 0 task 0",
+        ),
+    ];
+    for row in &table {
+        expect(&rt, rt.alloc(), row.0, row.1)?;
+    }
+    Ok(())
+}
