@@ -55,6 +55,13 @@ module _ (rows rows' : List Row) (limits : List Limit) (n n' : ℕ) (r : Row) (l
         | inr w ↦ omega (arith, new i (omega (arith, w.0)), ap (λ x. x.hold) w.2, ap (λ x. x.blocking) above)
       ]
 
+  pub add-rest : ((i : ℕ) → i < n → ((row_at rows i).level ≡ 0) × ((row_at rows i).place ≡ 0)) → r.level ≡ 0 → r.place ≡ 0 → (i : ℕ) → i < n' → ((row_at rows' i).level ≡ 0) × ((row_at rows' i).place ≡ 0)
+  add-rest old level place i h =
+      elim (at-either i h) [
+        | inl w ↦ (ap (λ x. x.level) w.1 ∙ (old i w.0).0, ap (λ x. x.place) w.1 ∙ (old i w.0).1)
+        | inr w ↦ (ap (λ x. x.level) w.1 ∙ level, ap (λ x. x.place) w.1 ∙ place)
+      ]
+
 -- where a part was added there was room
 pub had-room : (n t j : ℕ) (costs : List ℕ) → adding 16 n t j costs ≡ None → n < 16
 had-room n t j costs e = ltb-true n 16 (passed (ltb n 16) (fault_of t j costs) TooMany e).0

@@ -28,6 +28,15 @@ pub struct JudgedPlan<S> {
     ghost few: { bounds_told verdict ≤ 16 },
 }
 
+// What a judged plan consists of.
+#[derive(Drop)]
+pub struct Parts<S> {
+    pub bank: S,
+    pub tasks: Tasks,
+    pub verdict: Verdict,
+    pub bounds: [u32; 16],
+}
+
 impl<S> OpenPlan<S> {
     // A plan over a bank, with no task.
     pub fn new(bank: S) -> OpenPlan<S>
@@ -87,6 +96,21 @@ impl<S: Source> OpenPlan<S> {
 }
 
 impl<S> JudgedPlan<S> {
+    // Takes the plan apart.
+    pub fn into_parts(self) -> Parts<S>
+        ensures bank { result.bank ≡ self.bank }
+        ensures tasks { result.tasks ≡ self.tasks }
+        ensures verdict { result.verdict ≡ self.verdict }
+        ensures bounds { result.bounds ≡ self.bounds }
+    {
+        Parts {
+            bank: self.bank,
+            tasks: self.tasks,
+            verdict: self.verdict,
+            bounds: self.bounds,
+        }
+    }
+
     pub fn verdict(&self) -> Verdict
         ensures { result ≡ self.now.verdict }
     {

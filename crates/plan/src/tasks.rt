@@ -30,6 +30,7 @@ pub struct Tasks {
     ghost deadlines: { (i : ℕ) → i < parts.count → (limit_at limits i).deadline + (row_at parts.rows i).jitter ≤ (row_at parts.rows i).period },
     ghost blockings: { (i : ℕ) → i < parts.count → (limit_at limits i).blocking ≤ 1000000 },
     ghost holds: { (i j : ℕ) → i < j → j < parts.count → (limit_at limits j).hold ≤ (limit_at limits i).blocking },
+    ghost at_rest: { (i : ℕ) → i < parts.count → ((row_at parts.rows i).level ≡ 0) × ((row_at parts.rows i).place ≡ 0) },
 }
 
 // Whether a hold is at most the blocking in each of some limits.
@@ -148,6 +149,21 @@ impl Tasks {
         ensures { result ≡ (if is_part self.now.parts.count task then Some (row_load (row_at self.now.parts.rows (task - 1))) else None) }
     {
         self.parts.load(task)
+    }
+
+    // The paced parts of all tasks, with their levels and places.
+    pub fn table(&self) -> Table
+        ensures { result ≡ self.now.parts }
+    {
+        *self.parts()
+    }
+
+    // The limits of all tasks, by place.
+    pub fn limits(&self) -> [Limit; 16]
+        ensures { result ≡ self.now.limits }
+    {
+        let limits = self.limits;
+        limits
     }
 
     // The paced parts of the tasks: part k is that of the k-th task.

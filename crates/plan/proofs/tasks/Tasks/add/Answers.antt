@@ -1,9 +1,9 @@
-use Rattle.std.proofs.Common.{◌≡◌, ℕ, ◌+◌, ◌<◌, ◌≤◌, length, set, None, sym, ◌∙◌, subst, arith, length-set}
+use Rattle.std.proofs.Common.{◌≡◌, ℕ, ◌+◌, ◌<◌, ◌≤◌, length, set, None, refl, sym, ◌∙◌, subst, arith, length-set}
 use Rattle.refusal.specs.Table.{first_of}
 use Rattle.paced.specs.Makes.{fresh}
 use Rattle.paced.specs.Tables.{row_at}
 use Rattle.plan.specs.Limits.{limit_at}
-use Rattle.plan.proofs.Adding.{Right, right-limits, add-deadlines, add-blockings, add_holds, had-room}
+use Rattle.plan.proofs.Adding.{Right, right-limits, add-deadlines, add-blockings, add_holds, add-rest, had-room}
 use Rattle.plan.proofs.Bearing.{first-none}
 use Rattle.plan.proofs.tasks.Tasks.add.Goals as goal
 
@@ -41,4 +41,5 @@ invariant_of-self c =
       deadlines = subst (λ k. (i : ℕ) → i < p'.count → (limit_at (set s.limits k l) i).deadline + (row_at p'.rows i).jitter ≤ (row_at p'.rows i).period) (sym at) (add-deadlines p.rows p'.rows s.limits n p'.count r l grown.1 grown.2 rows-room limits-room s.deadlines right.deadline);
       blockings = subst (λ k. (i : ℕ) → i < p'.count → (limit_at (set s.limits k l) i).blocking ≤ 1000000) (sym at) (add-blockings p.rows p'.rows s.limits n p'.count r l grown.1 grown.2 rows-room limits-room s.blockings right.blocking);
       holds = subst (λ k. (i m : ℕ) → i < m → m < p'.count → (limit_at (set s.limits k l) m).hold ≤ (limit_at (set s.limits k l) i).blocking) (sym at) (add_holds p.rows p'.rows s.limits n p'.count r l grown.1 grown.2 rows-room limits-room s.holds right.hold);
+      at_rest = add-rest p.rows p'.rows s.limits n p'.count r l grown.1 grown.2 rows-room limits-room s.at_rest refl refl;
     }
