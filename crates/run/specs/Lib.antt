@@ -1,0 +1,3 @@
+pub mod Faults
+pub mod States
+pub mod Steps

@@ -1,0 +1,40 @@
+// What a run keeps apart from its bank and the paced parts of its tasks.
+
+ghost use Rattle.std.specs.Prelude.{◌≡◌};
+ghost use Rattle.run.specs.Steps.{older};
+
+// How many places there are for parts, and for tasks.
+pub const PLACES: u32 = 16;
+
+// The most units that may wait in all backlogs together.
+pub const MOST_BACKLOG: u64 = 1_000_000;
+
+// The job of a task: the units left of it, and its age in ticks. With no units left, no job is pending.
+#[derive(Clone, Copy)]
+pub struct Job {
+    pub left: u64,
+    pub age: u32,
+}
+
+impl Job {
+    // A tick passes.
+    pub(crate) fn pass(&mut self)
+        ensures { self.new ≡ older self.old }
+    {
+        if self.left > 0 {
+            self.age = self.age.saturating_add(1);
+        } else {
+            self.age = 0;
+        }
+    }
+}
+
+// The backlog of each part and the job of each task, by place from 0; the number of the task that holds the processor, 0 if
+// nobody does, and for how many more units it holds.
+#[derive(Clone, Copy)]
+pub struct State {
+    pub backlogs: [u64; 16],
+    pub jobs: [Job; 16],
+    pub holder: u32,
+    pub held: u64,
+}
