@@ -1,2 +1,5 @@
+pub mod Faults
 pub mod Firsts
+pub mod Paces
+pub mod Steady
 pub mod Ticks

@@ -1,0 +1,58 @@
+-- What is known where a call has no fault.
+use Rattle.std.proofs.Common.{◌≡◌, ℕ, ◌≤◌, Bool, cond, ◌&&◌, leb, List, Some, None, Option, arith}
+use Rattle.std.specs.Prelude.{nat_eq}
+use Rattle.std.proofs.lemmas.Bool.{leb-true, and_parts}
+use Rattle.std.proofs.lemmas.Bool.Decides.{nat_tests}
+use Rattle.refusal.specs.declared.Fault.{Fault}
+use Rattle.refusal.specs.declared.Fault.TheVariants.{NotAccepted, NoSuchNumber, UnitsNotAllowed, HoldNotGranted, NothingToEnd, JobPending}
+use Rattle.source.specs.Facts.{is_part}
+use Rattle.source.proofs.Parts.{part-bounds}
+use Rattle.paced.proofs.Makings.{passed}
+use Rattle.plan.specs.declared.tasks.Limit.{Limit}
+use Rattle.run.specs.Faults.{release_fault, grantable, hold_fault, end_fault}
+use Rattle.run.specs.States.{left_of, hold_of, first_at}
+use Rattle.run.specs.declared.state.Job.{Job}
+use Rattle.run.specs.declared.state.State.{State}
+
+-- a run that is accepted and a task that there is
+task-of : (accepted : Bool) (n i : ℕ) (rest : Option Fault) → cond accepted (cond (is_part n i) rest (Some NoSuchNumber)) (Some NotAccepted) ≡ None → (1 ≤ i) × (i ≤ n) × (rest ≡ None)
+task-of accepted n i rest e =
+    let there = passed (is_part n i) rest NoSuchNumber (passed accepted (cond (is_part n i) rest (Some NoSuchNumber)) NotAccepted e).1 in
+    let bounds = part-bounds n i there.0 in
+    (bounds.0, bounds.1, there.1)
+
+pub record Releasable (n most : ℕ) (jobs : List Job) (i u : ℕ) : Type 0 where
+  pub first : 1 ≤ i
+  pub last : i ≤ n
+  pub some : 1 ≤ u
+  pub allowed : u ≤ most
+  pub none : left_of jobs i ≡ 0
+
+pub releasable : (accepted : Bool) (n most : ℕ) (jobs : List Job) (i u : ℕ) → release_fault accepted n most jobs i u ≡ None → Releasable n most jobs i u
+releasable accepted n most jobs i u e =
+    let task = task-of accepted n i (cond (leb 1 u && leb u most) (cond (nat_eq (left_of jobs i) 0) None (Some JobPending)) (Some UnitsNotAllowed)) e in
+    let units = passed (leb 1 u && leb u most) (cond (nat_eq (left_of jobs i) 0) None (Some JobPending)) UnitsNotAllowed task.2 in
+    let both = and_parts (leb 1 u) (leb u most) units.0 in
+    let free = (passed (nat_eq (left_of jobs i) 0) None JobPending units.1).0 in
+    record { first = task.0; last = task.1; some = leb-true 1 u both.0; allowed = leb-true u most both.1; none = grind (arith, nat_tests) }
+
+pub record Holdable (n : ℕ) (limits : List Limit) (s : State) (i u : ℕ) : Type 0 where
+  pub first : 1 ≤ i
+  pub last : i ≤ n
+  pub some : 1 ≤ u
+  pub short : u ≤ hold_of limits i
+  pub within : u ≤ left_of s.jobs i
+
+pub holdable : (accepted : Bool) (n : ℕ) (limits : List Limit) (s : State) (i u : ℕ) → hold_fault accepted n limits s i u ≡ None → Holdable n limits s i u
+holdable accepted n limits s i u e =
+    let task = task-of accepted n i (cond (grantable n limits s i u) None (Some HoldNotGranted)) e in
+    let granted = (passed (grantable n limits s i u) None HoldNotGranted task.2).0 in
+    let d = leb u (hold_of limits i) && leb u (left_of s.jobs i) in
+    let c = leb 1 u && d in
+    let b = nat_eq (first_at (left_of s.jobs) n) i && c in
+    let units = and_parts (leb 1 u) d (and_parts (nat_eq (first_at (left_of s.jobs) n) i) c (and_parts (nat_eq s.holder 0) b granted).1).1 in
+    let bounds = and_parts (leb u (hold_of limits i)) (leb u (left_of s.jobs i)) units.1 in
+    record { first = task.0; last = task.1; some = leb-true 1 u units.0; short = leb-true u (hold_of limits i) bounds.0; within = leb-true u (left_of s.jobs i) bounds.1 }
+
+pub endable : (accepted : Bool) (n : ℕ) (jobs : List Job) (i : ℕ) → end_fault accepted n jobs i ≡ None → (1 ≤ i) × (i ≤ n)
+endable accepted n jobs i e = let task = task-of accepted n i (cond (leb 1 (left_of jobs i)) None (Some NothingToEnd)) e in (task.0, task.1)

@@ -1,0 +1,135 @@
+-- What every state of a run keeps, call by call.
+use Rattle.std.proofs.Common.{◌≡◌, ℕ, ◌+◌, ◌-◌, ◌≤◌, min, Bool, true, false, cond, ◌&&◌, leb, List, map, length, get_or, set, ◌≢◌, refl, sym, ap, ◌∙◌, arith, length-set, get_or-set_same, get_or-set_other}
+use Rattle.std.specs.List.{sum}
+use Rattle.std.specs.Prelude.{nat_eq}
+use Rattle.std.proofs.Math.ListN.{get_or-map}
+use Rattle.std.proofs.lemmas.Bool.{cond-true, le-leb, leb-true, leb-false, and_parts}
+use Rattle.std.proofs.lemmas.Bool.Decides.{nat_tests}
+use Rattle.std.proofs.lemmas.List.{length-map}
+use Rattle.std.proofs.lemmas.List.Sums.{sum_by-set}
+use Rattle.calls.specs.declared.Got.{Got}
+use Rattle.calls.specs.declared.Got.TheVariants.{Nobody, Part, Task}
+use Rattle.plan.specs.declared.tasks.Limit.{Limit}
+use Rattle.run.specs.States.{no_job, backlog_of, left_of, hold_of}
+use Rattle.run.specs.Steps.{released, granted, let_go, removed, ended, worked, part_served, task_served, served, older, aged, settled, passed, Placed}
+use Rattle.run.specs.declared.state.Job.{Job}
+use Rattle.run.specs.declared.state.State.{State}
+
+-- with n tasks of these limits
+pub record Steady (limits : List Limit) (n : ℕ) (s : State) : Type 0 where
+  pub backlogs : length s.backlogs ≡ 16
+  pub jobs : length s.jobs ≡ 16
+  pub waiting : sum s.backlogs ≤ 1000000
+  pub known : s.holder ≤ n
+  pub within : s.held ≤ left_of s.jobs s.holder
+  pub short : s.held ≤ hold_of limits s.holder
+
+abbrev pub Lasting : State → Type 0
+Lasting s = 1 ≤ s.holder → 1 ≤ s.held
+
+pub left-other : (jobs : List Job) (i j : ℕ) (v : Job) → 1 ≤ i → (j ≢ i) → left_of (set jobs (i - 1) v) j ≡ left_of jobs j
+left-other jobs i j v low ne = go (leb 1 j) refl
+  where
+    go : (b : Bool) → leb 1 j ≡ b → cond b (get_or (set jobs (i - 1) v) (j - 1) no_job).left 0 ≡ cond b (get_or jobs (j - 1) no_job).left 0
+    go true e = ap (λ x. x.left) (get_or-set_other jobs (i - 1) (j - 1) v no_job (λ same. ne (let some : 1 ≤ j = leb-true 1 j e in omega arith)))
+    go false e = refl
+
+pub left_same : (jobs : List Job) (i : ℕ) (v : Job) → 1 ≤ i → i ≤ length jobs → left_of (set jobs (i - 1) v) i ≡ v.left
+left_same jobs i v low high = cond-true (leb 1 i) (get_or (set jobs (i - 1) v) (i - 1) no_job).left 0 (le-leb 1 i low) ∙ ap (λ x. x.left) (get_or-set_same jobs (i - 1) v no_job (omega arith))
+
+left-of : (jobs : List Job) (i : ℕ) → 1 ≤ i → left_of jobs i ≡ (get_or jobs (i - 1) no_job).left
+left-of jobs i low = cond-true (leb 1 i) (get_or jobs (i - 1) no_job).left 0 (le-leb 1 i low)
+
+older-left : (j : Job) → (older j).left ≡ j.left
+older-left j = go (leb 1 j.left) refl
+  where
+    go : (b : Bool) → leb 1 j.left ≡ b → (cond b (record { left = j.left; age = min (j.age + 1) 4294967295 }) no_job).left ≡ j.left
+    go true e = refl
+    go false e = let none = leb-false 1 j.left e in omega arith
+
+-- growing older takes no units
+pub left-older : (jobs : List Job) (i : ℕ) → left_of (map older jobs) i ≡ left_of jobs i
+left-older jobs i = ap (λ x. cond (leb 1 i) x 0) (ap (λ x. x.left) (get_or-map older jobs (i - 1) no_job) ∙ older-left (get_or jobs (i - 1) no_job))
+
+module _ (limits : List Limit) (n : ℕ) (s : State) (steady : Steady limits n s) where
+  pub let_go-steady : Steady limits n (let_go s)
+  let_go-steady = record { backlogs = steady.backlogs; jobs = steady.jobs; waiting = steady.waiting; known = omega arith; within = omega arith; short = omega arith }
+
+  pub granted-steady : (i u : ℕ) → i ≤ n → u ≤ left_of s.jobs i → u ≤ hold_of limits i → Steady limits n (granted s i u)
+  granted-steady i u known within short = record { backlogs = steady.backlogs; jobs = steady.jobs; waiting = steady.waiting; known = known; within = within; short = short }
+
+  -- the job of a task that does not hold is written
+  pub written-steady : (i : ℕ) (v : Job) → 1 ≤ i → (s.holder ≢ i) → Steady limits n (record { backlogs = s.backlogs; jobs = set s.jobs (i - 1) v; holder = s.holder; held = s.held })
+  written-steady i v low other = record { backlogs = steady.backlogs; jobs = length-set s.jobs (i - 1) v ∙ steady.jobs; waiting = steady.waiting; known = steady.known; within = omega (arith, steady.within, left-other s.jobs i s.holder v low other); short = steady.short }
+
+  -- a task that has no job does not hold
+  pub idle-other : Lasting s → (i : ℕ) → 1 ≤ i → left_of s.jobs i ≡ 0 → s.holder ≢ i
+  idle-other lasting i low none e = omega (arith, lasting (omega arith), steady.within, ap (left_of s.jobs) e)
+
+  pub released-steady : Lasting s → (i u : ℕ) → 1 ≤ i → left_of s.jobs i ≡ 0 → Steady limits n (released s i u)
+  released-steady lasting i u low none = written-steady i (record { left = u; age = 0 }) low (idle-other lasting i low none)
+
+  pub ended-steady : (i : ℕ) → 1 ≤ i → Steady limits n (ended s i)
+  ended-steady i low = go (nat_eq s.holder i) refl
+    where
+      go : (b : Bool) → nat_eq s.holder i ≡ b → Steady limits n (cond b (let_go (removed s i)) (removed s i))
+      go true e = record { backlogs = steady.backlogs; jobs = length-set s.jobs (i - 1) no_job ∙ steady.jobs; waiting = steady.waiting; known = omega arith; within = omega arith; short = omega arith }
+      go false e = written-steady i no_job low (λ same. grind (arith, nat_tests))
+
+  pub ended-lasting : Lasting s → (i : ℕ) → Lasting (ended s i)
+  ended-lasting lasting i = go (nat_eq s.holder i)
+    where
+      go : (b : Bool) → Lasting (cond b (let_go (removed s i)) (removed s i))
+      go true h = absurd (omega arith)
+      go false h = lasting h
+
+  part_served-steady : (k : ℕ) → 1 ≤ k → k ≤ 16 → Steady limits n (part_served s k)
+  part_served-steady k low high =
+      let b = s.backlogs in
+      let y = backlog_of b k - 1 in
+      let there : backlog_of b k ≡ get_or b (k - 1) 0 = cond-true (leb 1 k) (get_or b (k - 1) 0) 0 (le-leb 1 k low) in
+      let grows : sum (set b (k - 1) y) + get_or b (k - 1) 0 ≡ sum b + y = sum_by-set (λ x. x) b (k - 1) y 0 (omega (arith, steady.backlogs)) in
+      record { backlogs = length-set b (k - 1) y ∙ steady.backlogs; jobs = steady.jobs; waiting = omega (arith, steady.waiting); known = steady.known; within = steady.within; short = steady.short }
+
+  task_served-steady : (i : ℕ) → 1 ≤ i → i ≤ 16 → Steady limits n (task_served s i)
+  task_served-steady i low high = go (nat_eq s.holder i) refl
+    where
+      v : Job
+      v = worked (get_or s.jobs (i - 1) no_job)
+
+      jobs' : List Job
+      jobs' = set s.jobs (i - 1) v
+
+      here : left_of jobs' i ≡ left_of s.jobs i - 1
+      here = left_same s.jobs i v low (omega (arith, steady.jobs)) ∙ ap (λ x. x - 1) (sym (left-of s.jobs i low))
+
+      go : (b : Bool) → nat_eq s.holder i ≡ b → Steady limits n (record { backlogs = s.backlogs; jobs = jobs'; holder = s.holder; held = cond b (s.held - 1) s.held })
+      go true e =
+          let same : s.holder ≡ i = grind (arith, nat_tests) in
+          record { backlogs = steady.backlogs; jobs = length-set s.jobs (i - 1) v ∙ steady.jobs; waiting = steady.waiting; known = steady.known; within = omega (arith, steady.within, here, ap (left_of s.jobs) same, ap (left_of jobs') same); short = omega (arith, steady.short) }
+      go false e = written-steady i v low (λ same. grind (arith, nat_tests))
+
+  pub served-steady : (got : Got) → Placed got → Steady limits n (served s got)
+  served-steady Nobody h = steady
+  served-steady (Part k) h = part_served-steady k h.0 h.1
+  served-steady (Task i a) h = task_served-steady i h.0 h.1
+
+  pub aged-steady : Steady limits n (aged s)
+  aged-steady = record { backlogs = steady.backlogs; jobs = length-map s.jobs older ∙ steady.jobs; waiting = steady.waiting; known = steady.known; within = omega (arith, steady.within, left-older s.jobs s.holder); short = steady.short }
+
+  pub settled-steady : Steady limits n (settled s)
+  settled-steady = go (leb 1 s.held && leb 1 (left_of s.jobs s.holder))
+    where
+      go : (b : Bool) → Steady limits n (cond b s (let_go s))
+      go true = steady
+      go false = let_go-steady
+
+pub settled-lasting : (s : State) → Lasting (settled s)
+settled-lasting s = go (leb 1 s.held && leb 1 (left_of s.jobs s.holder)) refl
+  where
+    go : (b : Bool) → (leb 1 s.held && leb 1 (left_of s.jobs s.holder)) ≡ b → Lasting (cond b s (let_go s))
+    go true e h = leb-true 1 s.held (and_parts (leb 1 s.held) (leb 1 (left_of s.jobs s.holder)) e).0
+    go false e h = absurd (omega arith)
+
+pub passed-steady : (limits : List Limit) (n : ℕ) (s : State) → Steady limits n s → (got : Got) → Placed got → Steady limits n (passed s got)
+passed-steady limits n s steady got placed = settled-steady limits n (aged (served s got)) (aged-steady limits n (served s got) (served-steady limits n s steady got placed))
