@@ -4,7 +4,7 @@
 ghost use Rattle.std.specs.Prelude.{◌≡◌, ℕ, ◌+◌, ◌<◌, ◌≤◌, min, true, false, length, if◌then◌else◌, Some, None, IfOk, IfErr, MatchResult};
 ghost use Rattle.std.specs.List.{sum};
 ghost use Rattle.source.specs.Facts.{Kept, Taken, Ticked};
-ghost use Rattle.paced.specs.Tables.{row_at, allowances_of, Gives, Passes};
+ghost use Rattle.paced.specs.Tables.{row_at, demands_of, allowances_of, Gives, Passes};
 ghost use Rattle.plan.specs.Limits.{limit_at};
 ghost use Rattle.run.specs.Faults.{named, offer_fault, release_fault, grantable, hold_fault, let_go_fault, end_fault, tick_fault};
 ghost use Rattle.run.specs.States.{at_start, left_of, hold_of, is_accepted};
@@ -14,6 +14,7 @@ pub mod state;
 mod steps;
 
 use crate::state::{Job, MOST_BACKLOG, PLACES, State};
+use calls::Got;
 use paced::table::Table;
 use plan::stages::{JudgedPlan, Parts};
 use plan::tasks::Limit;
@@ -220,6 +221,63 @@ impl<G: Gate> Run<G> {
         Ok(())
     }
 
+    // Releases a job of a task with some units. Refused are, the first that applies: a run of a plan that is not accepted; a
+    // number that is no task; units outside 1 to what the task may bring in this tick; a task whose job is pending.
+    pub fn release(&mut self, task: u32, units: u64) -> Result<(), Refusal>
+        ensures answer { MatchResult result (λ _. release_fault self.old.accepted self.old.table.count (allowances_of self.old.table.count (row_at self.old.table.rows) task 1) self.old.state.jobs task units ≡ None) (λ e. (release_fault self.old.accepted self.old.table.count (allowances_of self.old.table.count (row_at self.old.table.rows) task 1) self.old.state.jobs task units ≡ Some e.fault) × (e.line ≡ 0) × (e.task ≡ named e.fault task)) }
+        ensures refused { IfErr result (λ _. self.new ≡ self.old) }
+        ensures state { IfOk result (λ _. self.new.state ≡ released self.old.state task units) }
+        ensures bank { self.new.bank ≡ self.old.bank }
+        ensures table { IfOk result (λ _. Gives self.old.table.count self.old.table.rows task units self.new.table.count self.new.table.rows) }
+        ensures taken { IfOk result (λ _. Taken (allowances_of self.old.table.count (row_at self.old.table.rows)) task units (allowances_of self.new.table.count (row_at self.new.table.rows))) }
+        ensures kept { Kept self.old.table.count (demands_of self.old.table.count (row_at self.old.table.rows)) self.new.table.count (demands_of self.new.table.count (row_at self.new.table.rows)) }
+        ensures fixed { (self.new.limits ≡ self.old.limits) × (self.new.accepted ≡ self.old.accepted) × (self.new.parts ≡ self.old.parts) × (self.new.bounds ≡ self.old.bounds) }
+    {
+        if let Some(fault) = self.release_fault(task, units) {
+            return Err(Refusal::new(fault, 0, task));
+        }
+        let mut table = self.table;
+        table.offer(task, units);
+        self.table = table;
+        self.state = steps::released(self.state, task, units);
+        Ok(())
+    }
+
+    // Lets a task hold the processor for some units. Refused are, the first that applies: a run of a plan that is not
+    // accepted; a number that is no task; a hold while another is going on, of a task that is not the highest with a
+    // pending job, or of units outside 1 to the task's longest hold and to those left of its job.
+    pub fn hold(&mut self, task: u32, units: u64) -> Result<(), Refusal>
+        ensures answer { MatchResult result (λ _. hold_fault self.old.accepted self.old.table.count self.old.limits self.old.state task units ≡ None) (λ e. (hold_fault self.old.accepted self.old.table.count self.old.limits self.old.state task units ≡ Some e.fault) × (e.line ≡ 0) × (e.task ≡ named e.fault task)) }
+        ensures refused { IfErr result (λ _. self.new ≡ self.old) }
+        ensures state { IfOk result (λ _. self.new.state ≡ granted self.old.state task units) }
+        ensures bank { self.new.bank ≡ self.old.bank }
+        ensures table { self.new.table ≡ self.old.table }
+        ensures fixed { (self.new.limits ≡ self.old.limits) × (self.new.accepted ≡ self.old.accepted) × (self.new.parts ≡ self.old.parts) × (self.new.bounds ≡ self.old.bounds) }
+    {
+        if let Some(fault) = self.hold_fault(task, units) {
+            return Err(Refusal::new(fault, 0, task));
+        }
+        self.state = steps::granted(self.state, task, units);
+        Ok(())
+    }
+
+    // A task lets go of the processor. Refused are, the first that applies: a run of a plan that is not accepted; a number
+    // that is no task; a task that does not hold.
+    pub fn let_go(&mut self, task: u32) -> Result<(), Refusal>
+        ensures answer { MatchResult result (λ _. let_go_fault self.old.accepted self.old.table.count self.old.state task ≡ None) (λ e. (let_go_fault self.old.accepted self.old.table.count self.old.state task ≡ Some e.fault) × (e.line ≡ 0) × (e.task ≡ named e.fault task)) }
+        ensures refused { IfErr result (λ _. self.new ≡ self.old) }
+        ensures state { IfOk result (λ _. self.new.state ≡ let_go self.old.state) }
+        ensures bank { self.new.bank ≡ self.old.bank }
+        ensures table { self.new.table ≡ self.old.table }
+        ensures fixed { (self.new.limits ≡ self.old.limits) × (self.new.accepted ≡ self.old.accepted) × (self.new.parts ≡ self.old.parts) × (self.new.bounds ≡ self.old.bounds) }
+    {
+        if let Some(fault) = self.let_go_fault(task) {
+            return Err(Refusal::new(fault, 0, task));
+        }
+        self.state = steps::let_go(self.state);
+        Ok(())
+    }
+
     // The job of a task ends: its hold with it.
     pub(crate) fn end(&mut self, task: u32) -> Result<(), Refusal>
         ensures answer { MatchResult result (λ _. end_fault self.old.accepted self.old.table.count self.old.state.jobs task ≡ None) (λ e. (end_fault self.old.accepted self.old.table.count self.old.state.jobs task ≡ Some e.fault) × (e.line ≡ 0) × (e.task ≡ named e.fault task)) }
@@ -234,5 +292,32 @@ impl<G: Gate> Run<G> {
         }
         self.state = steps::ended(self.state, task);
         Ok(())
+    }
+
+    // A tick passes: one unit is given, and the bank and the tasks tick. Refused is only a run of a plan that is not
+    // accepted.
+    pub fn tick(&mut self) -> Result<Got, Refusal>
+        ensures answer { MatchResult result (λ got. (tick_fault self.old.accepted ≡ None) × (got ≡ due self.old.parts self.old.table.count self.old.state)) (λ e. (tick_fault self.old.accepted ≡ Some e.fault) × (e.line ≡ 0) × (e.task ≡ 0)) }
+        ensures refused { IfErr result (λ _. self.new ≡ self.old) }
+        ensures state { IfOk result (λ got. self.new.state ≡ passed self.old.state got) }
+        ensures bank { IfOk result (λ _. G.Gate.ticks self.old.bank self.new.bank) }
+        ensures ticked { IfOk result (λ _. Ticked (G.Source.allowed self.old.bank) (G.Source.allowed self.new.bank)) }
+        ensures kept { Kept (G.Source.parts self.old.bank) (G.Source.demanded self.old.bank) (G.Source.parts self.new.bank) (G.Source.demanded self.new.bank) }
+        ensures table { IfOk result (λ _. Passes self.old.table.count self.old.table.rows self.new.table.count self.new.table.rows) }
+        ensures tasks_ticked { IfOk result (λ _. Ticked (allowances_of self.old.table.count (row_at self.old.table.rows)) (allowances_of self.new.table.count (row_at self.new.table.rows))) }
+        ensures tasks_kept { Kept self.old.table.count (demands_of self.old.table.count (row_at self.old.table.rows)) self.new.table.count (demands_of self.new.table.count (row_at self.new.table.rows)) }
+        ensures fixed { (self.new.limits ≡ self.old.limits) × (self.new.accepted ≡ self.old.accepted) × (self.new.parts ≡ self.old.parts) × (self.new.bounds ≡ self.old.bounds) }
+    {
+        if !self.accepted {
+            return Err(Refusal::plain(Fault::NotAccepted));
+        }
+        let got = steps::due(self.state, self.parts, self.table.count());
+        let state = steps::passed(self.state, got);
+        let mut table = self.table;
+        table.tick();
+        self.bank.tick();
+        self.table = table;
+        self.state = state;
+        Ok(got)
     }
 }
