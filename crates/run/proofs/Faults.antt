@@ -1,15 +1,16 @@
 -- What is known where a call has no fault.
-use Rattle.std.proofs.Common.{◌≡◌, ℕ, ◌≤◌, Bool, cond, ◌&&◌, leb, List, Some, None, Option, arith}
+use Rattle.std.proofs.Common.{◌≡◌, ℕ, ◌+◌, ◌≤◌, Bool, true, false, cond, ◌&&◌, leb, List, Some, None, Option, refl, arith}
 use Rattle.std.specs.Prelude.{nat_eq}
 use Rattle.std.proofs.lemmas.Bool.{leb-true, and_parts}
 use Rattle.std.proofs.lemmas.Bool.Decides.{nat_tests}
+use Rattle.std.specs.List.{sum}
 use Rattle.refusal.specs.declared.Fault.{Fault}
-use Rattle.refusal.specs.declared.Fault.TheVariants.{NotAccepted, NoSuchNumber, UnitsNotAllowed, HoldNotGranted, NothingToEnd, JobPending}
-use Rattle.source.specs.Facts.{is_part}
-use Rattle.source.proofs.Parts.{part-bounds}
+use Rattle.refusal.specs.declared.Fault.TheVariants.{NotAccepted, NoSuchNumber, UnitsNotAllowed, BacklogFull, HoldNotGranted, NothingToEnd, JobPending}
+use Rattle.source.specs.Facts.{is_part, offerable, Sound}
+use Rattle.source.proofs.Parts.{part-bounds, offerable-from}
 use Rattle.paced.proofs.Makings.{passed}
 use Rattle.plan.specs.declared.tasks.Limit.{Limit}
-use Rattle.run.specs.Faults.{release_fault, grantable, hold_fault, end_fault}
+use Rattle.run.specs.Faults.{offer_fault, release_fault, grantable, hold_fault, end_fault}
 use Rattle.run.specs.States.{left_of, hold_of, first_at}
 use Rattle.run.specs.declared.state.Job.{Job}
 use Rattle.run.specs.declared.state.State.{State}
@@ -20,6 +21,21 @@ task-of accepted n i rest e =
     let there = passed (is_part n i) rest NoSuchNumber (passed accepted (cond (is_part n i) rest (Some NoSuchNumber)) NotAccepted e).1 in
     let bounds = part-bounds n i there.0 in
     (bounds.0, bounds.1, there.1)
+
+-- units within what a part may bring are taken: a number that is no part may bring nothing
+pub takeable : (n : ℕ) (d a : ℕ → ℕ → ℕ) → Sound n d a → (k u : ℕ) → 1 ≤ u → u ≤ a k 1 → offerable n a k u ≡ true
+takeable n d a sound k u some within = go (is_part n k) refl
+  where
+    go : (b : Bool) → is_part n k ≡ b → offerable n a k u ≡ true
+    go true e = offerable-from n a k u e some within
+    go false e = absurd (omega (arith, sound.outside k 1 e, sound.within k 1))
+
+pub offer-units : (accepted : Bool) (n most : ℕ) (backlogs : List ℕ) (k u : ℕ) → offer_fault accepted n most backlogs k u ≡ None → (1 ≤ u) × (u ≤ most)
+offer-units accepted n most backlogs k u e =
+    let part = task-of accepted n k (cond (leb 1 u && leb u most) (cond (leb (sum backlogs + u) 1000000) None (Some BacklogFull)) (Some UnitsNotAllowed)) e in
+    let units = passed (leb 1 u && leb u most) (cond (leb (sum backlogs + u) 1000000) None (Some BacklogFull)) UnitsNotAllowed part.2 in
+    let both = and_parts (leb 1 u) (leb u most) units.0 in
+    (leb-true 1 u both.0, leb-true u most both.1)
 
 pub record Releasable (n most : ℕ) (jobs : List Job) (i u : ℕ) : Type 0 where
   pub first : 1 ≤ i
