@@ -279,7 +279,7 @@ impl<G: Gate> Run<G> {
     }
 
     // The job of a task ends: its hold with it.
-    pub(crate) fn end(&mut self, task: u32) -> Result<(), Refusal>
+    pub fn end(&mut self, task: u32) -> Result<(), Refusal>
         ensures answer { MatchResult result (λ _. end_fault self.old.accepted self.old.table.count self.old.state.jobs task ≡ None) (λ e. (end_fault self.old.accepted self.old.table.count self.old.state.jobs task ≡ Some e.fault) × (e.line ≡ 0) × (e.task ≡ named e.fault task)) }
         ensures refused { IfErr result (λ _. self.new ≡ self.old) }
         ensures state { IfOk result (λ _. self.new.state ≡ ended self.old.state task) }

@@ -1,0 +1,8 @@
+pub mod First
+pub mod Numbered
+pub mod Steady
+pub mod Steps
+pub mod Ticking
+pub mod Linking
+pub mod Promising
+pub mod Played

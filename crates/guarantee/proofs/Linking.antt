@@ -1,0 +1,221 @@
+-- The calls of a run of an accepted plan lead, as the model has it, from its start to its end.
+use Rattle.std.proofs.Common.{◌≡◌, ℕ, zero, suc, ◌+◌, ◌-◌, ◌<◌, ◌≤◌, Bool, true, false, cond, eqb, leb, ◌&&◌, List, [], ◌∷◌, map, length, get_or, set, Some, None, Option, MatchOption, sym, refl, ap, ◌∙◌, subst, inl, inr, arith, length-set}
+use Rattle.std.specs.List.{sum}
+use Rattle.std.proofs.lemmas.List.{length-map}
+use Rattle.std.proofs.lemmas.Bool.{leb-true, eqb-true, and_parts, cond-true, cond-false}
+use Rattle.refusal.specs.declared.Fault.{Fault}
+use Rattle.refusal.specs.declared.Fault.TheVariants.{NotAccepted, NoSuchNumber, UnitsNotAllowed, BacklogFull, HoldNotGranted, NothingToEnd, JobPending}
+use Rattle.source.specs.Facts.{is_part, Sound, Kept, Taken, Ticked, Driven}
+use Rattle.source.proofs.Parts.{part-bounds}
+use Rattle.paced.specs.Pace.{largest_cost}
+use Rattle.paced.specs.Tables.{row_at, demands_of, allowances_of, Gives, Passes}
+use Rattle.paced.specs.Together.{table-sound}
+use Rattle.paced.specs.declared.row.Row.{Row}
+use Rattle.plan.specs.Limits.{limit_at}
+use Rattle.plan.specs.declared.tasks.Limit.{Limit}
+use Rattle.calls.specs.Events.{Event, log_of}
+use Rattle.calls.specs.States as model
+use Rattle.calls.specs.Steps.{Step, Leads}
+use Rattle.calls.specs.declared.Call.{Call}
+use Rattle.calls.specs.declared.Call.TheVariants.{Offer, Release, Hold, LetGo, End, Tick}
+use Rattle.calls.specs.declared.Answer.{Answer}
+use Rattle.calls.specs.declared.Answer.TheVariants as answers
+use Rattle.run.specs.Faults.{named, offer_fault, release_fault, grantable, hold_fault, let_go_fault, end_fault, tick_fault}
+use Rattle.run.specs.States.{no_job, backlog_of, left_of}
+use Rattle.run.specs.Steps.{grown, released, granted, let_go, removed, ended, due, passed, served, aged, settled}
+use Rattle.run.specs.declared.state.State.{State}
+use Rattle.guarantee.specs.Playing.{Fixed, Now, Did, Played}
+use Rattle.guarantee.specs.Views.{plan_of, view_of}
+use Rattle.guarantee.proofs.Steps.{offered-step, released-step, granted-step, let_go-step, ended-step}
+use Rattle.guarantee.proofs.Ticking.{tick-step, passed-backlogs, passed-jobs, passed-holder}
+use Rattle.guarantee.proofs.Steady.{Steady, Alike, allowances-few, steady-given, steady-later}
+
+-- a fault that is not found
+no-fault : (b : Bool) (x : Option Fault) (e : Fault) → cond b x (Some e) ≡ None → (b ≡ true) × (x ≡ None)
+no-fault true x e h = (refl, h)
+no-fault false x e h = let z : ◌≡◌ {A = ℕ} 0 1 = cc in absurd (omega arith)
+
+-- what holds of a call by its fault
+by-fault : {P : Type 0} {Q : Fault → Type 0} (R : Type 0) (o : Option Fault) → MatchOption o P Q → (o ≡ None → P → R) → ((e : Fault) → o ≡ Some e → Q e → R) → R
+by-fault R None h none some = none refl h
+by-fault R (Some e) h none some = some e refl h
+
+-- what every state of the run keeps to: the bank's parts and demand, the tasks' rows, places for all, and a known holder
+pub record Inside {S : Type 0} (parts : S → ℕ) (demanded : S → ℕ → ℕ → ℕ) (n : ℕ) (d : ℕ → ℕ → ℕ) (m : ℕ) (start : List Row) (s : Now S) : Type 0 where
+  pub parts-are : parts s.bank ≡ n
+  pub demand-is : demanded s.bank ≡ d
+  pub steady : Steady m start s.rows
+  pub backlogs : length s.state.backlogs ≡ 16
+  pub jobs : length s.state.jobs ≡ 16
+  pub holder : s.state.holder ≤ m
+
+module _ {S : Type 0} (parts : S → ℕ) (demanded allowed : S → ℕ → ℕ → ℕ) (takes : S → ℕ → ℕ → S → Type 0) (ticks : S → S → Type 0)
+    (sound : (s : S) → Sound (parts s) (demanded s) (allowed s)) (driven : Driven parts demanded allowed takes ticks)
+    (n : ℕ) (d : ℕ → ℕ → ℕ) (m : ℕ) (start : List Row) (limits : List Limit) (bounds : List ℕ)
+    (few-parts : n ≤ 16) (few-tasks : m ≤ 16)
+    (deadlines : (i : ℕ) → i < m → (limit_at limits i).deadline + (row_at start i).jitter ≤ (row_at start i).period)
+    (bounded : (i : ℕ) → i < m → get_or bounds i 0 ≤ (limit_at limits i).deadline) where
+  abbrev pub plan : model.Plan
+  plan = plan_of n d m start limits bounds
+
+  abbrev pub fixed : Fixed
+  fixed = record { accepted = true; parts = n; tasks = m; limits = limits }
+
+  abbrev pub view : Now S → model.State
+  view s = view_of (allowed s.bank) m s.rows s.state
+
+  abbrev pub In : Now S → Type 0
+  In s = Inside parts demanded n d m start s
+
+  pub fits : (s : Now S) → In s → model.Fits plan (view s)
+  fits s h =
+      let steady = h.steady in
+      let bank : Sound n d (allowed s.bank) = subst (λ x. Sound n x (allowed s.bank)) h.demand-is (subst (λ x. Sound x (demanded s.bank) (allowed s.bank)) h.parts-are (sound s.bank)) in
+      let tasks : Sound m (demands_of m (row_at start)) (allowances_of m (row_at s.rows)) = subst (λ x. Sound m x (allowances_of m (row_at s.rows))) steady.demand (table-sound m (row_at s.rows) (omega arith) steady.fit) in
+      record { bank = bank; tasks = tasks; one = λ i l a b c. one i l a b c }
+    where
+      one : (i l : ℕ) → 1 ≤ i → i ≤ m → l ≤ get_or bounds (i - 1) 0 → allowances_of m (row_at s.rows) i l ≤ largest_cost (row_at start (i - 1))
+      one i l a b c =
+          let place : i - 1 < m = omega arith in
+          let alike = h.steady.alike (i - 1) place in
+          let most = allowances-few m (row_at s.rows) i l (h.steady.fit (i - 1) place) (omega (arith, deadlines (i - 1) place, bounded (i - 1) place, alike.period, alike.jitter)) in
+          omega (arith, most, alike.cost)
+
+  -- a call with its answer is a step of the model, and what is kept stays kept
+  abbrev Stepped : Call → Answer → Now S → Now S → Type 0
+  Stepped c a s t = Step plan (view s) c a (view t) × In t
+
+  abbrev DidHere : Call → Answer → Now S → Now S → Type 0
+  DidHere c a s t = Did allowed takes ticks fixed c a s t
+
+  -- the same state, and so the same view
+  same-inside : (s t : Now S) → t ≡ s → In s → In t
+  same-inside s t e h = subst In (sym e) h
+
+  -- the bank and the rows are as they were
+  kept-inside : (s t : Now S) → In s → t.bank ≡ s.bank → t.rows ≡ s.rows → length t.state.backlogs ≡ 16 → length t.state.jobs ≡ 16 → t.state.holder ≤ m → In t
+  kept-inside s t h bank rows backlogs jobs holder =
+      record { parts-are = ap parts bank ∙ h.parts-are; demand-is = ap demanded bank ∙ h.demand-is; steady = subst (Steady m start) (sym rows) h.steady; backlogs = backlogs; jobs = jobs; holder = holder }
+
+  kept-view : (s t : Now S) (x : State) → t.bank ≡ s.bank → t.rows ≡ s.rows → t.state ≡ x → view_of (allowed s.bank) m s.rows x ≡ view t
+  kept-view s t x bank rows state i = view_of (allowed (sym bank i)) m (sym rows i) (sym state i)
+
+  step-offer : (s t : Now S) (k u : ℕ) (a : Answer) → In s → DidHere (Offer k u) a s t → Stepped (Offer k u) a s t
+  step-offer s t k u a h did =
+      by-fault (Stepped (Offer k u) a s t) (offer_fault true n (allowed s.bank k 1) s.state.backlogs k u) did
+      (λ e x. (let f = no-fault (is_part n k) _ NoSuchNumber e in
+      let b = part-bounds n k f.0 in
+      let g = driven.taken s.bank t.bank k u x.1 in
+      let off = offered-step m s.rows s.state (allowed s.bank) (allowed t.bank) k u b.0 (omega (arith, h.backlogs)) g.1 in
+      let to : view_of (allowed t.bank) m s.rows (grown s.state k u) ≡ view t = λ i. view_of (allowed t.bank) m (sym x.2 i) (sym x.3 i) in (
+        subst (λ y. Step plan (view s) (Offer k u) y (view t)) (sym x.0) (subst (λ v. Step plan (view s) (Offer k u) answers.Done v) to off),
+        record {
+          parts-are = g.0.count ∙ h.parts-are;
+          demand-is = g.0.demand ∙ h.demand-is;
+          steady = subst (Steady m start) (sym x.2) h.steady;
+          backlogs = ap (λ y. length y.backlogs) x.3 ∙ length-set s.state.backlogs (k - 1) (backlog_of s.state.backlogs k + u) ∙ h.backlogs;
+          jobs = ap (λ y. length y.jobs) x.3 ∙ h.jobs;
+          holder = omega (arith, ap (λ y. y.holder) x.3, h.holder);
+        },
+      )))
+      (λ f e x. (subst (λ y. Step plan (view s) (Offer k u) y (view t)) (sym x.0) (ap view x.1), same-inside s t x.1 h))
+
+  step-release : (s t : Now S) (i u : ℕ) (a : Answer) → In s → DidHere (Release i u) a s t → Stepped (Release i u) a s t
+  step-release s t i u a h did =
+      by-fault (Stepped (Release i u) a s t) (release_fault true m (allowances_of m (row_at s.rows) i 1) s.state.jobs i u) did
+      (λ e x. (let f = no-fault (is_part m i) _ NoSuchNumber e in
+      let b = part-bounds m i f.0 in
+      let g = no-fault (leb 1 u && leb u (allowances_of m (row_at s.rows) i 1)) _ UnitsNotAllowed f.1 in
+      let units = and_parts (leb 1 u) (leb u (allowances_of m (row_at s.rows) i 1)) g.0 in
+      let j = no-fault (eqb (left_of s.state.jobs i) 0) _ JobPending g.1 in
+      let none : left_of s.state.jobs i ≡ 0 = eqb-true (left_of s.state.jobs i) 0 j.0 in
+      let y = steady-given m start s.rows h.steady i u t.rows x.2 in
+      let to : view_of (allowed s.bank) m t.rows (released s.state i u) ≡ view t = λ k. view_of (allowed (sym x.1 k)) m t.rows (sym x.3 k) in (
+        subst (λ z. Step plan (view s) (Release i u) z (view t)) (sym x.0) (subst (λ v. Step plan (view s) (Release i u) answers.Done v) to (released-step m s.rows s.state start n d (allowed s.bank) limits bounds t.rows i u b.0 b.1 (omega (arith, h.jobs)) (leb-true 1 u units.0) none y.1)),
+        record {
+          parts-are = ap parts x.1 ∙ h.parts-are;
+          demand-is = ap demanded x.1 ∙ h.demand-is;
+          steady = y.0;
+          backlogs = ap (λ z. length z.backlogs) x.3 ∙ h.backlogs;
+          jobs = ap (λ z. length z.jobs) x.3 ∙ length-set s.state.jobs (i - 1) (record { left = u; age = 0 }) ∙ h.jobs;
+          holder = omega (arith, ap (λ z. z.holder) x.3, h.holder);
+        },
+      )))
+      (λ f e x. (subst (λ y. Step plan (view s) (Release i u) y (view t)) (sym x.0) (ap view x.1), same-inside s t x.1 h))
+
+  step-hold : (s t : Now S) (i u : ℕ) (a : Answer) → In s → DidHere (Hold i u) a s t → Stepped (Hold i u) a s t
+  step-hold s t i u a h did =
+      by-fault (Stepped (Hold i u) a s t) (hold_fault true m limits s.state i u) did
+      (λ e x. (let f = no-fault (is_part m i) _ NoSuchNumber e in
+      let b = part-bounds m i f.0 in
+      let g = no-fault (grantable m limits s.state i u) _ HoldNotGranted f.1 in
+      let step = granted-step m s.rows s.state start n d (allowed s.bank) limits bounds i u b.0 b.1 g.0 in (
+        subst (λ y. Step plan (view s) (Hold i u) y (view t)) (sym x.0) (subst (λ v. Step plan (view s) (Hold i u) answers.Done v) (kept-view s t (granted s.state i u) x.1 x.2 x.3) step),
+        kept-inside s t h x.1 x.2 (ap (λ y. length y.backlogs) x.3 ∙ h.backlogs) (ap (λ y. length y.jobs) x.3 ∙ h.jobs) (omega (arith, ap (λ y. y.holder) x.3)),
+      )))
+      (λ f e x. (subst (λ y. Step plan (view s) (Hold i u) y (view t)) (sym x.0) (ap view x.1), same-inside s t x.1 h))
+
+  step-let_go : (s t : Now S) (i : ℕ) (a : Answer) → In s → DidHere (LetGo i) a s t → Stepped (LetGo i) a s t
+  step-let_go s t i a h did =
+      by-fault (Stepped (LetGo i) a s t) (let_go_fault true m s.state i) did
+      (λ e x. (let f = no-fault (is_part m i) _ NoSuchNumber e in
+      let g = no-fault (eqb s.state.holder i) _ NothingToEnd f.1 in
+      let step = let_go-step m s.rows s.state (allowed s.bank) i (eqb-true s.state.holder i g.0) in (
+        subst (λ y. Step plan (view s) (LetGo i) y (view t)) (sym x.0) (subst (λ v. Step plan (view s) (LetGo i) answers.Done v) (kept-view s t (let_go s.state) x.1 x.2 x.3) step),
+        kept-inside s t h x.1 x.2 (ap (λ y. length y.backlogs) x.3 ∙ h.backlogs) (ap (λ y. length y.jobs) x.3 ∙ h.jobs) (omega (arith, ap (λ y. y.holder) x.3)),
+      )))
+      (λ f e x. (subst (λ y. Step plan (view s) (LetGo i) y (view t)) (sym x.0) (ap view x.1), same-inside s t x.1 h))
+
+  step-end : (s t : Now S) (i : ℕ) (a : Answer) → In s → DidHere (End i) a s t → Stepped (End i) a s t
+  step-end s t i a h did =
+      by-fault (Stepped (End i) a s t) (end_fault true m s.state.jobs i) did
+      (λ e x. (let f = no-fault (is_part m i) _ NoSuchNumber e in
+      let b = part-bounds m i f.0 in
+      let g = no-fault (leb 1 (left_of s.state.jobs i)) _ NothingToEnd f.1 in
+      let step = ended-step m s.rows s.state (allowed s.bank) i b.0 (omega (arith, h.jobs)) (leb-true 1 (left_of s.state.jobs i) g.0) in
+      let keeps = ended-keeps s.state i in (
+        subst (λ y. Step plan (view s) (End i) y (view t)) (sym x.0) (subst (λ v. Step plan (view s) (End i) answers.Done v) (kept-view s t (ended s.state i) x.1 x.2 x.3) step),
+        kept-inside s t h x.1 x.2 (ap (λ y. length y.backlogs) x.3 ∙ keeps.0 ∙ h.backlogs) (ap (λ y. length y.jobs) x.3 ∙ keeps.1 ∙ h.jobs) (omega (arith, ap (λ y. y.holder) x.3, keeps.2, h.holder)),
+      )))
+      (λ f e x. (subst (λ y. Step plan (view s) (End i) y (view t)) (sym x.0) (ap view x.1), same-inside s t x.1 h))
+    where
+      ended-keeps : (s : State) (i : ℕ) → (length (ended s i).backlogs ≡ length s.backlogs) × (length (ended s i).jobs ≡ length s.jobs) × ((ended s i).holder ≤ s.holder)
+      ended-keeps s i = go (eqb s.holder i)
+        where
+          go : (b : Bool) → (let e : State = cond b (let_go (removed s i)) (removed s i) in (length e.backlogs ≡ length s.backlogs) × (length e.jobs ≡ length s.jobs) × (e.holder ≤ s.holder))
+          go true = (refl, length-set s.jobs (i - 1) no_job, omega arith)
+          go false = (refl, length-set s.jobs (i - 1) no_job, omega arith)
+
+  step-tick : (s t : Now S) (a : Answer) → In s → DidHere Tick a s t → Stepped Tick a s t
+  step-tick s t a h x =
+      let got = due n m s.state in
+      let g = driven.ticked s.bank t.bank x.1 in
+      let y = steady-later m start s.rows h.steady t.rows x.2 in
+      let step = tick-step n d (allowed s.bank) (allowed t.bank) m start s.rows t.rows limits bounds s.state (omega (arith, h.backlogs)) (omega (arith, h.jobs)) h.holder g.1 y.1 in
+      let to : view_of (allowed t.bank) m t.rows (passed s.state got) ≡ view t = λ i. view_of (allowed t.bank) m t.rows (sym x.3 i) in (
+        subst (λ z. Step plan (view s) Tick z (view t)) (sym x.0) (subst (λ v. Step plan (view s) Tick (answers.Ticked got) v) to step),
+        record {
+          parts-are = g.0.count ∙ h.parts-are;
+          demand-is = g.0.demand ∙ h.demand-is;
+          steady = y.0;
+          backlogs = ap (λ z. length z.backlogs) x.3 ∙ passed-backlogs s.state got ∙ h.backlogs;
+          jobs = ap (λ z. length z.jobs) x.3 ∙ passed-jobs s.state got ∙ h.jobs;
+          holder = omega (arith, ap (λ z. z.holder) x.3, passed-holder s.state got m h.holder);
+        },
+      )
+
+  step : (s t : Now S) (c : Call) (a : Answer) → In s → DidHere c a s t → Stepped c a s t
+  step s t (Offer k u) a h did = step-offer s t k u a h did
+  step s t (Release i u) a h did = step-release s t i u a h did
+  step s t (Hold i u) a h did = step-hold s t i u a h did
+  step s t (LetGo i) a h did = step-let_go s t i a h did
+  step s t (End i) a h did = step-end s t i a h did
+  step s t Tick a h did = step-tick s t a h did
+
+  -- one call after another
+  pub leads : (calls : List Call) (as' : List Answer) (s t : Now S) → In s → Played allowed takes ticks fixed calls as' s t → Leads plan (view s) (log_of calls as') (view t)
+  leads [] as' s t h p = ap view p
+  leads (c ∷ calls) [] s t h p = ap view p
+  leads (c ∷ calls) (a ∷ as') s t h (mid, did, more) =
+      let one = step s mid c a h did in
+      (view mid, one.0, fits mid one.1, leads calls as' mid t one.1 more)

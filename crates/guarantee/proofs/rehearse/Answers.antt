@@ -1,0 +1,82 @@
+use Rattle.std.proofs.Common.{◌≡◌, ℕ, ◌+◌, ◌<◌, ◌≤◌, min, Bool, true, cond, length, get_or, sym, refl, ap, ◌∙◌, subst, arith}
+use Rattle.std.proofs.lemmas.List.{drop-set-lt}
+use Rattle.paced.specs.Pace.{Fit}
+use Rattle.paced.specs.Tables.{row_at, demands_of}
+use Rattle.run.specs.States.{at_start, is_accepted}
+use Rattle.calls.specs.Events.{log_of}
+use Rattle.calls.specs.declared.Call.TheVariants.{Offer}
+use Rattle.guarantee.specs.Playing.{Fixed, Now, Did, Played}
+use Rattle.guarantee.specs.Promise.{begun, Keeps}
+use Rattle.guarantee.proofs.Played.{played-more, played-whole}
+use Rattle.guarantee.proofs.Promising.{acceptable-accepted, keeps}
+use Rattle.guarantee.proofs.rehearse.Goals as goal
+
+pub loop-place-preserved : goal.loop-place-preserved
+loop-place-preserved g c =
+    let inv = c.loop-place.invariant in
+    let run = c.loop-place.run in
+    let first = c.start-run.result in
+    let i = c.loop-place.place in
+    let fixed = c.make.ensures.fixed in
+    let now : Now g.row.G.Denot = record { bank = run.bank; rows = run.table.rows; state = run.state } in
+    let next : Now g.row.G.Denot = record { bank = c.make.new.run.bank; rows = c.make.new.run.table.rows; state = c.make.new.run.state } in
+    let start : Now g.row.G.Denot = record { bank = first.bank; rows = first.table.rows; state = first.state } in
+    let here : Fixed = record { accepted = run.accepted; parts = run.parts; tasks = run.table.count; limits = run.limits } in
+    let there : Fixed = record { accepted = first.accepted; parts = first.parts; tasks = first.table.count; limits = first.limits } in
+    let same : here ≡ there = λ k. record { accepted = inv.accepted k; parts = inv.parts k; tasks = inv.tasks k; limits = inv.limits k } in
+    let did = subst (λ f. Did g.G.Source.allowed g.G.Gate.takes g.G.Gate.ticks f (get_or c.args.calls.now i (Offer 0 0)) c.make.result now next) same c.make.ensures.did in
+    record {
+      played = played-more g.G.Source.allowed g.G.Gate.takes g.G.Gate.ticks there c.args.calls.now c.loop-place.answers i (Offer 0 0) c.make.result start now next (omega arith) (omega arith) inv.played did;
+      accepted = fixed.1 ∙ inv.accepted;
+      parts = fixed.2 ∙ inv.parts;
+      tasks = fixed.4 ∙ inv.tasks;
+      limits = fixed.0 ∙ inv.limits;
+      bounds = fixed.3 ∙ inv.bounds;
+      rest = λ k h. drop-set-lt k c.loop-place.answers i c.make.result (omega arith) ∙ inv.rest k (omega arith);
+    }
+
+pub returns-clause-played : goal.returns-clause-played
+returns-clause-played g c =
+    let inv = c.loop-place.invariant in
+    let run = c.loop-place.run in
+    let first = c.start-run.result in
+    let begins = c.start-run.ensures in
+    let plan = c.args.plan in
+    let there : Fixed = record { accepted = first.accepted; parts = first.parts; tasks = first.table.count; limits = first.limits } in
+    let start : Now g.row.G.Denot = record { bank = first.bank; rows = first.table.rows; state = first.state } in
+    let end : Now g.row.G.Denot = record { bank = run.bank; rows = run.table.rows; state = run.state } in
+    let whole = played-whole g.G.Source.allowed g.G.Gate.takes g.G.Gate.ticks there c.args.calls.now c.loop-place.answers c.loop-place.place start end (omega arith) inv.played in
+    let tasks = c.judge.ensures.tasks in
+    let bank : first.bank ≡ plan.bank = begins.bank ∙ c.judge.ensures.bank in
+    let rows : first.table.rows ≡ plan.tasks.parts.rows = ap (λ t. t.rows) begins.table ∙ ap (λ t. t.parts.rows) tasks in
+    let count : first.table.count ≡ plan.tasks.parts.count = ap (λ t. t.count) begins.table ∙ ap (λ t. t.parts.count) tasks in
+    let limits : first.limits ≡ plan.tasks.limits = begins.limits ∙ ap (λ t. t.limits) tasks in
+    let here : Fixed = record { accepted = run.accepted; parts = run.parts; tasks = plan.tasks.parts.count; limits = plan.tasks.limits } in
+    let same : there ≡ here = λ k. record { accepted = sym inv.accepted k; parts = sym inv.parts k; tasks = count k; limits = limits k } in
+    let begin : start ≡ begun plan.bank plan.tasks.parts.rows = λ k. record { bank = bank k; rows = rows k; state = begins.state k } in
+    let turned = subst (λ f. Played g.G.Source.allowed g.G.Gate.takes g.G.Gate.ticks f c.args.calls.now c.loop-place.answers start end) same whole in
+    subst (λ s. Played g.G.Source.allowed g.G.Gate.takes g.G.Gate.ticks here c.args.calls.now c.loop-place.answers s end) begin turned
+
+pub returns-clause-guaranteed : goal.returns-clause-guaranteed
+returns-clause-guaranteed g c ok =
+    let inv = c.loop-place.invariant in
+    let run = c.loop-place.run in
+    let begins = c.start-run.ensures in
+    let plan = c.args.plan in
+    let tasks = plan.tasks in
+    let table = tasks.parts in
+    let v = c.judge.result.verdict in
+    let parts = g.G.Source.parts in
+    let judged = c.judge.ensures.judged in
+    let accepted : is_accepted v ≡ true = acceptable-accepted (g.G.Source.demanded plan.bank) (parts plan.bank) tasks.limits table.count table.rows v c.judge.result.bounds judged ok in
+    let taken : run.accepted ≡ true = inv.accepted ∙ begins.accepted ∙ accepted in
+    let bounds : run.bounds ≡ c.judge.result.bounds = inv.bounds ∙ begins.bounds in
+    let many : run.parts ≡ parts plan.bank = inv.parts ∙ begins.parts ∙ ap (λ b. cond b (min (parts c.judge.result.bank) 16) 0) accepted ∙ ap (λ b. min (parts b) 16) c.judge.ensures.bank ∙ omega (arith, ok.1) in
+    let here : Fixed = record { accepted = run.accepted; parts = run.parts; tasks = table.count; limits = tasks.limits } in
+    let full : Fixed = record { accepted = true; parts = parts plan.bank; tasks = table.count; limits = tasks.limits } in
+    let same : here ≡ full = λ k. record { accepted = taken k; parts = many k; tasks = table.count; limits = tasks.limits } in
+    let end : Now g.row.G.Denot = record { bank = run.bank; rows = run.table.rows; state = run.state } in
+    let played = subst (λ f. Played g.G.Source.allowed g.G.Gate.takes g.G.Gate.ticks f c.args.calls.now c.loop-place.answers (begun plan.bank table.rows) end) same (returns-clause-played g c) in
+    let fit : (i : ℕ) → i < table.count → Fit (row_at table.rows i) = λ i h. record { paces = table.paces i h; places = table.places i h; costs = table.costs i h } in
+    let kept = keeps parts g.G.Source.demanded g.G.Source.allowed g.G.Gate.takes g.G.Gate.ticks g.met.G.Source.sound g.met.G.Gate.driven plan.bank table.count table.rows tasks.limits c.judge.result.bounds v table.few (omega (arith, table.held, table.few)) fit tasks.deadlines tasks.holds judged accepted c.args.calls.now c.loop-place.answers end played in
+    (taken, subst (λ bs. Keeps (g.G.Source.demanded plan.bank) (demands_of table.count (row_at table.rows)) bs (log_of c.args.calls.now c.loop-place.answers)) (sym bounds) kept)

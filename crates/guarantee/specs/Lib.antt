@@ -1,0 +1,3 @@
+pub mod Views
+pub mod Playing
+pub mod Promise
