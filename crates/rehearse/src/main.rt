@@ -1,0 +1,129 @@
+// Rehearses a run: reads a plan sheet, an empty line and then one call a line from standard input, makes the calls on a run of
+// the sheet's plan, and writes one line for each answer to standard output.
+#![tactic(auto)]
+
+use calls::{Answer, Call};
+use guarantee::rehearse;
+use listing::{Listing, ROOM, write_listing};
+use paced::rack::Rack;
+use plan::stages::OpenPlan;
+use refusal::Refusal;
+use schedule::cyclic::Schedule;
+use sheet::read_plan;
+use source::pair::Pair;
+use std::alloc::{AllocError, Global};
+use std::io::{Read, Write};
+use transcript::{Line, call_of};
+use words::split::first_line;
+
+// How many bytes the whole input may have.
+const LONGEST_INPUT: usize = 1_000_000;
+
+// How many bytes of the input are the sheet: those before its first empty line, or all.
+fn sheet_length(input: &[u8]) -> usize {
+    let mut fresh = true;
+    for (place, byte) in input.iter().enumerate() {
+        if *byte == b'\n' {
+            if fresh {
+                return place;
+            }
+            fresh = true;
+        } else {
+            fresh = false;
+        }
+    }
+    input.len()
+}
+
+// How many lines end in some bytes.
+fn lines_in(bytes: &[u8]) -> u64 {
+    let mut lines: u64 = 0;
+    for byte in bytes {
+        if *byte == b'\n' {
+            lines = lines.saturating_add(1);
+        }
+    }
+    lines
+}
+
+// The calls that the lines of a text say, or how many lines come before the first that is none.
+fn calls_of(heap: Global, text: &[u8]) -> Result<Result<Vec<Call>, u64>, AllocError> {
+    let mut calls: Vec<Call> = Vec::new(heap);
+    let mut rest = text;
+    while !rest.is_empty() {
+        let Some((line, after)) = first_line(rest) else {
+            return Ok(Err(calls.len() as u64));
+        };
+        let Some(call) = call_of(line) else {
+            return Ok(Err(calls.len() as u64));
+        };
+        calls.push(call)?;
+        rest = after;
+    }
+    Ok(Ok(calls))
+}
+
+// An open plan for a sheet to be read into.
+fn no_plan() -> Result<OpenPlan<Pair<Rack, Schedule>>, Refusal> {
+    let schedule = Schedule::new(1)?;
+    Ok(OpenPlan::new(Pair::new(Rack::new(), schedule)))
+}
+
+// Makes the calls on a run of the plan, and writes the line of each answer.
+fn print_answers(
+    rt: &HostRuntime,
+    plan: OpenPlan<Pair<Rack, Schedule>>,
+    calls: &[Call],
+) -> anyhow::Result<()> {
+    let mut answers: Vec<Answer> = Vec::new(rt.alloc());
+    for _ in calls {
+        answers.push(Answer::Done)?;
+    }
+    let _ = rehearse(plan, calls, &mut answers);
+    for answer in &answers {
+        println!(rt; "{}", Line(*answer))?;
+    }
+    Ok(())
+}
+
+// Rehearses what the input says.
+fn print_rehearsal(rt: &HostRuntime, input: &[u8]) -> anyhow::Result<()> {
+    let Ok(mut plan) = no_plan() else {
+        return Ok(());
+    };
+    let length = sheet_length(input);
+    let sheet = input.get(..length).unwrap_or(&[]);
+    let text = input.get(length.saturating_add(1)..).unwrap_or(&[]);
+    if let Err(refusal) = read_plan(sheet, &mut plan) {
+        let mut buffer = [0; ROOM];
+        if let Ok(count) = write_listing(&mut buffer, &Listing::Refused(refusal)) {
+            rt.stdout().write_all(buffer.get(..count).unwrap_or(&[]))?;
+        }
+        return Ok(());
+    }
+    match calls_of(rt.alloc(), text)? {
+        Ok(calls) => print_answers(rt, plan, &calls),
+        Err(before) => {
+            let line = lines_in(sheet).saturating_add(before).saturating_add(2);
+            println!(rt; "bad call {line}")?;
+            Ok(())
+        }
+    }
+}
+
+fn run(rt: &HostRuntime) -> anyhow::Result<()> {
+    let mut input: Vec<u8> = Vec::new(rt.alloc());
+    // one byte more than the input may have is enough to see that it is too long
+    rt.stdin()
+        .take(LONGEST_INPUT as u64 + 1)
+        .read_to_end(&mut input)?;
+    if input.len() > LONGEST_INPUT {
+        println!(rt; "input too long")?;
+        return Ok(());
+    }
+    print_rehearsal(rt, &input)
+}
+
+fn main(rt: HostRuntime) -> anyhow::Result<()> {
+    run(&rt)
+}
