@@ -1,5 +1,5 @@
 -- The first number at which a function is not 0, and what stands at numbers that count from 1.
-use Rattle.std.proofs.Common.{◌≡◌, ℕ, zero, suc, ◌+◌, ◌-◌, ◌<◌, ◌≤◌, Bool, true, false, cond, leb, List, get_or, refl, ap, ◌∙◌, inl, inr, add-one, arith}
+use Rattle.std.proofs.Common.{◌≡◌, ℕ, zero, suc, ◌+◌, ◌-◌, ◌<◌, ◌≤◌, Bool, true, false, cond, leb, List, get_or, refl, sym, ap, ◌∙◌, inl, inr, add-one, arith}
 use Rattle.std.proofs.lemmas.Bool.{cond-true, cond-false, le-leb, lt-leb, cases_lt}
 use Rattle.run.specs.States.{no_job, backlog_of, left_of, first_at}
 use Rattle.run.specs.declared.state.Job.{Job}
@@ -58,6 +58,25 @@ module _ (f : ℕ → ℕ) where
       found : (m : ℕ) → first_at f (i - 1) ≡ m → 1 ≤ f (i - 1 + 1) → ⊥
       found zero e there = omega (arith, first-found n (i - 1) (omega arith) e there)
       found (suc m) e there = omega (arith, first-stays n (i - 1) (omega arith) (omega arith))
+
+  -- the first number at which f is not 0, if there is one: f is 0 at all before it
+  pub first-some : (n k : ℕ) → first_at f n ≡ k → 1 ≤ k → (k ≤ n) × (1 ≤ f k) × ((i : ℕ) → 1 ≤ i → i < k → f i ≡ 0)
+  first-some zero k e some = absurd (omega arith)
+  first-some (suc n) k e some =
+      elim (cases_lt 0 (first_at f n)) [
+        | inl before ↦
+            let same = cond-true (leb 1 (first_at f n)) (first_at f n) (cond (leb 1 (f (suc n))) (suc n) 0) (le-leb 1 (first_at f n) before) in
+            let earlier = first-some n k (sym same ∙ e) some in
+            (omega (arith, earlier.0), earlier.1, earlier.2)
+        | inr after ↦
+            let skip = cond-false (leb 1 (first_at f n)) (first_at f n) (cond (leb 1 (f (suc n))) (suc n) 0) (lt-leb 1 (first_at f n) (omega arith)) in
+            elim (cases_lt 0 (f (suc n))) [
+              | inl here ↦
+                  let last : k ≡ suc n = sym e ∙ skip ∙ cond-true (leb 1 (f (suc n))) (suc n) 0 (le-leb 1 (f (suc n)) here) in
+                  (omega arith, omega (arith, ap f last), λ i low less. first-none n (omega arith) i low (omega arith))
+              | inr nowhere ↦ absurd (omega (arith, sym e ∙ skip ∙ cond-false (leb 1 (f (suc n))) (suc n) 0 (lt-leb 1 (f (suc n)) (omega arith))))
+            ]
+      ]
 
 pub backlog-at : (xs : List ℕ) (i : ℕ) → backlog_of xs (i + 1) ≡ get_or xs i 0
 backlog-at xs i = cond-true (leb 1 (i + 1)) (get_or xs (i + 1 - 1) 0) 0 (le-leb 1 (i + 1) (omega arith)) ∙ ap (λ k. get_or xs k 0) (omega arith)

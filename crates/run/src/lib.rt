@@ -16,7 +16,7 @@ mod steps;
 use crate::state::{Job, MOST_BACKLOG, PLACES, State};
 use calls::Got;
 use paced::table::Table;
-use plan::stages::{JudgedPlan, Parts};
+use plan::stages::JudgedPlan;
 use plan::tasks::Limit;
 use plan::verdict::Verdict;
 use refusal::{Fault, Refusal};
@@ -70,7 +70,8 @@ fn at_start() -> State
 }
 
 impl<G: Source> Run<G> {
-    // Starts a run of a judged plan and uses the plan up.
+    // Starts a run of a judged plan and uses the plan up: with no backlog, no job and no hold. The bank of an accepted plan
+    // has at most 16 parts, so all of them count.
     pub fn start(judged: JudgedPlan<G>) -> Run<G>
         ensures bank { result.bank ≡ judged.bank }
         ensures table { result.table ≡ judged.tasks.parts }
@@ -101,6 +102,7 @@ impl<G: Source> Run<G> {
         }
     }
 
+    // What is wrong with an offer, if anything is.
     fn offer_fault(&self, part: u32, units: u64) -> Option<Fault>
         ensures { result ≡ offer_fault self.now.accepted self.now.parts (G.Source.allowed self.now.bank part 1) self.now.state.backlogs part units }
     {
@@ -120,6 +122,7 @@ impl<G: Source> Run<G> {
         None
     }
 
+    // What is wrong with a release, if anything is.
     fn release_fault(&self, task: u32, units: u64) -> Option<Fault>
         ensures { result ≡ release_fault self.now.accepted self.now.table.count (allowances_of self.now.table.count (row_at self.now.table.rows) task 1) self.now.state.jobs task units }
     {
@@ -152,6 +155,7 @@ impl<G: Source> Run<G> {
         self.state.holder == 0 && highest == task && 1 <= units && units <= longest && units <= left
     }
 
+    // What is wrong with a hold, if anything is.
     fn hold_fault(&self, task: u32, units: u64) -> Option<Fault>
         ensures { result ≡ hold_fault self.now.accepted self.now.table.count self.now.limits self.now.state task units }
     {
@@ -167,6 +171,7 @@ impl<G: Source> Run<G> {
         None
     }
 
+    // What is wrong with letting go, if anything is.
     fn let_go_fault(&self, task: u32) -> Option<Fault>
         ensures { result ≡ let_go_fault self.now.accepted self.now.table.count self.now.state task }
     {
@@ -182,6 +187,7 @@ impl<G: Source> Run<G> {
         None
     }
 
+    // What is wrong with ending a job, if anything is.
     fn end_fault(&self, task: u32) -> Option<Fault>
         ensures { result ≡ end_fault self.now.accepted self.now.table.count self.now.state.jobs task }
     {
@@ -278,7 +284,8 @@ impl<G: Gate> Run<G> {
         Ok(())
     }
 
-    // The job of a task ends: its hold with it.
+    // Ends the job of a task, and any hold of that task. Refused are, the first that applies: a run of a plan that is not
+    // accepted; a number that is no task; a task that has no job.
     pub fn end(&mut self, task: u32) -> Result<(), Refusal>
         ensures answer { MatchResult result (λ _. end_fault self.old.accepted self.old.table.count self.old.state.jobs task ≡ None) (λ e. (end_fault self.old.accepted self.old.table.count self.old.state.jobs task ≡ Some e.fault) × (e.line ≡ 0) × (e.task ≡ named e.fault task)) }
         ensures refused { IfErr result (λ _. self.new ≡ self.old) }
