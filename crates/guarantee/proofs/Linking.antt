@@ -1,34 +1,32 @@
 -- The calls of a run of an accepted plan lead, as the model has it, from its start to its end.
-use Rattle.std.proofs.Common.{◌≡◌, ℕ, zero, suc, ◌+◌, ◌-◌, ◌<◌, ◌≤◌, Bool, true, false, cond, eqb, leb, ◌&&◌, List, [], ◌∷◌, map, length, get_or, set, Some, None, Option, MatchOption, sym, refl, ap, ◌∙◌, subst, inl, inr, arith, length-set}
-use Rattle.std.specs.List.{sum}
-use Rattle.std.proofs.lemmas.List.{length-map}
-use Rattle.std.proofs.lemmas.Bool.{leb-true, eqb-true, and_parts, cond-true, cond-false}
+use Rattle.std.proofs.Common.{◌≡◌, ℕ, ◌+◌, ◌-◌, ◌<◌, ◌≤◌, Bool, true, false, cond, eqb, leb, ◌&&◌, List, [], ◌∷◌, length, get_or, Some, None, Option, MatchOption, sym, refl, ap, ◌∙◌, subst, arith, length-set}
+use Rattle.std.proofs.lemmas.Bool.{leb-true, eqb-true, and_parts}
 use Rattle.refusal.specs.declared.Fault.{Fault}
-use Rattle.refusal.specs.declared.Fault.TheVariants.{NotAccepted, NoSuchNumber, UnitsNotAllowed, BacklogFull, HoldNotGranted, NothingToEnd, JobPending}
-use Rattle.source.specs.Facts.{is_part, Sound, Kept, Taken, Ticked, Driven}
+use Rattle.refusal.specs.declared.Fault.TheVariants.{NoSuchNumber, UnitsNotAllowed, HoldNotGranted, NothingToEnd, JobPending}
+use Rattle.source.specs.Facts.{is_part, Sound, Driven}
 use Rattle.source.proofs.Parts.{part-bounds}
 use Rattle.paced.specs.Pace.{largest_cost}
-use Rattle.paced.specs.Tables.{row_at, demands_of, allowances_of, Gives, Passes}
+use Rattle.paced.specs.Tables.{row_at, demands_of, allowances_of}
 use Rattle.paced.specs.Together.{table-sound}
 use Rattle.paced.specs.declared.row.Row.{Row}
 use Rattle.plan.specs.Limits.{limit_at}
 use Rattle.plan.specs.declared.tasks.Limit.{Limit}
-use Rattle.calls.specs.Events.{Event, log_of}
+use Rattle.calls.specs.Events.{log_of}
 use Rattle.calls.specs.States as model
 use Rattle.calls.specs.Steps.{Step, Leads}
 use Rattle.calls.specs.declared.Call.{Call}
 use Rattle.calls.specs.declared.Call.TheVariants.{Offer, Release, Hold, LetGo, End, Tick}
 use Rattle.calls.specs.declared.Answer.{Answer}
 use Rattle.calls.specs.declared.Answer.TheVariants as answers
-use Rattle.run.specs.Faults.{named, offer_fault, release_fault, grantable, hold_fault, let_go_fault, end_fault, tick_fault}
+use Rattle.run.specs.Faults.{offer_fault, release_fault, grantable, hold_fault, let_go_fault, end_fault}
 use Rattle.run.specs.States.{no_job, backlog_of, left_of}
-use Rattle.run.specs.Steps.{grown, released, granted, let_go, removed, ended, due, passed, served, aged, settled}
+use Rattle.run.specs.Steps.{grown, released, granted, let_go, removed, ended, due, passed}
 use Rattle.run.specs.declared.state.State.{State}
 use Rattle.guarantee.specs.Playing.{Fixed, Now, Did, Played}
 use Rattle.guarantee.specs.Views.{plan_of, view_of}
 use Rattle.guarantee.proofs.Steps.{offered-step, released-step, granted-step, let_go-step, ended-step}
 use Rattle.guarantee.proofs.Ticking.{tick-step, passed-backlogs, passed-jobs, passed-holder}
-use Rattle.guarantee.proofs.Steady.{Steady, Alike, allowances-few, steady-given, steady-later}
+use Rattle.guarantee.proofs.Steady.{Steady, allowances-few, steady-given, steady-later}
 
 -- a fault that is not found
 no-fault : (b : Bool) (x : Option Fault) (e : Fault) → cond b x (Some e) ≡ None → (b ≡ true) × (x ≡ None)

@@ -1,15 +1,14 @@
 -- A run of an acceptable plan keeps its promise.
-use Rattle.std.proofs.Common.{◌≡◌, ℕ, ◌+◌, ◌-◌, ◌<◌, ◌≤◌, Bool, true, false, cond, leb, List, length, get_or, replicate, sym, refl, ap, ◌∙◌, subst, inl, inr, arith}
+use Rattle.std.proofs.Common.{◌≡◌, ℕ, ◌+◌, ◌-◌, ◌<◌, ◌≤◌, Bool, true, false, cond, leb, List, length, get_or, replicate, refl, ap, inl, inr, arith}
 use Rattle.std.proofs.lemmas.Bool.{cond-true, le-leb, cases_lt}
 use Rattle.std.proofs.lemmas.List.{get_or-replicate, length-replicate}
 use Rattle.std.proofs.Math.ListN.{get_or-eq_default}
 use Rattle.source.specs.Facts.{Sound, Driven}
 use Rattle.paced.specs.Pace.{Fit}
-use Rattle.paced.specs.Tables.{row_at, demands_of, allowances_of}
+use Rattle.paced.specs.Tables.{row_at, demands_of}
 use Rattle.paced.specs.declared.row.Row.{Row}
 use Rattle.plan.specs.Judged.{Bounded, Judged}
 use Rattle.plan.specs.Limits.{limit_at}
-use Rattle.plan.specs.Needs.{needed}
 use Rattle.plan.specs.declared.tasks.Limit.{Limit}
 use Rattle.plan.specs.declared.verdict.Verdict.{Verdict}
 use Rattle.plan.specs.declared.verdict.Verdict.TheVariants.{Accepted, NotJudgeable, Late}
@@ -18,8 +17,8 @@ use Rattle.calls.specs.States as model
 use Rattle.calls.specs.declared.Answer.{Answer}
 use Rattle.calls.specs.declared.Call.{Call}
 use Rattle.calls.proofs.Guaranteeing.{guaranteed}
-use Rattle.run.specs.States.{no_job, at_start, hold_of, is_accepted, backlog_of, left_of, age_of}
-use Rattle.guarantee.specs.Playing.{Fixed, Now, Played}
+use Rattle.run.specs.States.{no_job, at_start, hold_of, is_accepted}
+use Rattle.guarantee.specs.Playing.{Now, Played}
 use Rattle.guarantee.specs.Promise.{Acceptable, Keeps, begun}
 use Rattle.guarantee.specs.Views.{plan_of, view_of}
 use Rattle.guarantee.proofs.Linking.{Inside, leads, fits}

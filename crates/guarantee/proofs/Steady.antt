@@ -1,17 +1,17 @@
 -- What every state of a run of an accepted plan keeps to.
-use Rattle.std.proofs.Common.{◌≡◌, ℕ, zero, suc, ◌+◌, ◌-◌, ◌/◌, ◌<◌, ◌≤◌, min, Bool, true, false, cond, eqb, leb, ◌&&◌, List, map, length, get_or, set, nat_le, sym, refl, ap, ◌∙◌, subst, inl, inr, arith, length-set}
+use Rattle.std.proofs.Common.{◌≡◌, ℕ, zero, suc, ◌+◌, ◌-◌, ◌/◌, ◌<◌, ◌≤◌, Bool, true, false, List, map, length, set, nat_le, sym, refl, ap, ◌∙◌, subst, inl, inr, arith, length-set}
 use Rattle.std.proofs.Math.Nat.{div-eq_of_lt}
 use Rattle.std.proofs.Math.ListN.{get_or-map}
 use Rattle.std.proofs.lemmas.List.{get_or-set_same, get_or-set_other, length-map}
-use Rattle.std.proofs.lemmas.Bool.{cond_both, cond-true, cond-false, leb-true, leb-false, cases_eq}
-use Rattle.source.specs.Facts.{is_part, offerable, Sound, Kept, Taken, Ticked}
+use Rattle.std.proofs.lemmas.Bool.{cond_both, cond-true, cond-false, leb-true, cases_eq}
+use Rattle.source.specs.Facts.{is_part, Taken, Ticked}
 use Rattle.source.proofs.Parts.{by_part, offerable-parts, part-bounds}
 use Rattle.cycles.proofs.Rounds.{top-at}
 use Rattle.paced.specs.Runs.{at}
 use Rattle.paced.specs.Pace.{run, allowance, arrivals, largest_cost, given, later, Fit}
 use Rattle.paced.specs.Rows.{given-fit, later-fit, allowance-one}
 use Rattle.paced.specs.Tables.{row_at, demands_of, allowances_of, Gives, Passes}
-use Rattle.paced.specs.Together.{table-sound, list-taken, list-ticked, set-every, later-every}
+use Rattle.paced.specs.Together.{list-taken, list-ticked, set-every, later-every}
 use Rattle.paced.specs.declared.row.Row.{Row}
 
 -- over at most T - J ticks a row brings at most one cost

@@ -1,10 +1,9 @@
 -- The steps of a run, as the model has them: what is done to the state of a run is what the model's step says.
-use Rattle.std.proofs.Common.{◌≡◌, ℕ, zero, suc, ◌+◌, ◌-◌, ◌<◌, ◌≤◌, Bool, true, false, cond, eqb, leb, ◌&&◌, List, length, get_or, set, sym, refl, ap, ◌∙◌, inl, inr, arith}
-use Rattle.std.proofs.lemmas.Bool.{cond-true, cond-false, le-leb, lt-leb, eq-eqb, ne_eqb, eqb-true, leb-true, and_parts, cases_eq, cases_lt}
+use Rattle.std.proofs.Common.{◌≡◌, ℕ, ◌+◌, ◌-◌, ◌≤◌, Bool, true, false, cond, eqb, leb, ◌&&◌, List, length, set, sym, refl, ap, ◌∙◌, inl, inr, arith}
+use Rattle.std.proofs.lemmas.Bool.{cond-true, cond-false, ne_eqb, eqb-true, leb-true, and_parts, cases_eq}
 use Rattle.source.specs.Facts.{Taken}
 use Rattle.paced.specs.declared.row.Row.{Row}
 use Rattle.plan.specs.declared.tasks.Limit.{Limit}
-use Rattle.calls.specs.States as model
 use Rattle.calls.specs.Steps.{Offered, Released, Granted, LetGone, Ended}
 use Rattle.run.specs.States.{no_job, backlog_of, left_of, age_of, hold_of, first_at}
 use Rattle.run.specs.Faults.{grantable}
@@ -14,7 +13,7 @@ use Rattle.run.specs.declared.state.State.{State}
 use Rattle.paced.specs.Tables.{row_at, allowances_of}
 use Rattle.guarantee.specs.Views.{plan_of, view_of}
 use Rattle.guarantee.proofs.First.{first}
-use Rattle.guarantee.proofs.Numbered.{numbered, numbered-set}
+use Rattle.guarantee.proofs.Numbered.{numbered-set}
 
 module _ (m : ℕ) (rows : List Row) (s : State) where
   pub offered-step : (a a' : ℕ → ℕ → ℕ) (k u : ℕ) → 1 ≤ k → k ≤ length s.backlogs → Taken a k u a' → Offered (view_of a m rows s) k u (view_of a' m rows (grown s k u))

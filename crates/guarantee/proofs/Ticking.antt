@@ -1,6 +1,6 @@
 -- A tick of a run is a tick of the model.
-use Rattle.std.proofs.Common.{◌≡◌, ℕ, zero, suc, ◌+◌, ◌-◌, ◌<◌, ◌≤◌, min, Bool, true, false, cond, eqb, leb, ◌&&◌, List, map, length, get_or, set, ◌⊎◌, sym, refl, ap, ◌∙◌, subst, inl, inr, arith, length-set}
-use Rattle.std.proofs.lemmas.Bool.{cond-true, cond-false, le-leb, lt-leb, eq-eqb, ne_eqb, eqb-true, leb-true, leb-false, cases_eq, cases_lt}
+use Rattle.std.proofs.Common.{◌≡◌, ℕ, ◌+◌, ◌-◌, ◌<◌, ◌≤◌, min, Bool, true, false, cond, eqb, leb, ◌&&◌, List, map, length, get_or, ◌⊎◌, sym, refl, ap, ◌∙◌, subst, inl, inr, arith, length-set}
+use Rattle.std.proofs.lemmas.Bool.{cond-true, cond-false, eq-eqb, ne_eqb, leb-true, leb-false, cases_eq}
 use Rattle.std.proofs.Math.ListN.{get_or-map}
 use Rattle.std.proofs.lemmas.List.{length-map}
 use Rattle.source.specs.Facts.{Ticked}
@@ -9,14 +9,14 @@ use Rattle.paced.specs.declared.row.Row.{Row}
 use Rattle.plan.specs.declared.tasks.Limit.{Limit}
 use Rattle.calls.specs.declared.Got.{Got}
 use Rattle.calls.specs.declared.Got.TheVariants.{Nobody, Part, Task}
-use Rattle.calls.specs.Steps.{part_unit, task_unit, kept_units, Due, AgeTold, Idle, Passed}
+use Rattle.calls.specs.Steps.{part_unit, task_unit, Due, AgeTold, Idle, Passed}
 use Rattle.run.specs.States.{no_job, backlog_of, left_of, age_of, first_at}
 use Rattle.run.specs.Steps.{part_served, task_served, served, worked, older, aged, settled, passed, due, due_task, foremost, told_age, let_go}
 use Rattle.run.specs.declared.state.Job.{Job}
 use Rattle.run.specs.declared.state.State.{State}
 use Rattle.guarantee.specs.Views.{plan_of, view_of}
-use Rattle.guarantee.proofs.First.{First, first}
-use Rattle.guarantee.proofs.Numbered.{numbered, numbered-set, numbered-some, numbered-zero}
+use Rattle.guarantee.proofs.First.{first}
+use Rattle.guarantee.proofs.Numbered.{numbered-set, numbered-some}
 
 -- a job a tick later has the same units left
 older-left : (j : Job) → (older j).left ≡ j.left

@@ -1,8 +1,8 @@
-use Rattle.std.proofs.Common.{◌≡◌, ℕ, ◌+◌, ◌<◌, ◌≤◌, min, Bool, true, cond, length, get_or, sym, refl, ap, ◌∙◌, subst, arith}
+use Rattle.std.proofs.Common.{◌≡◌, ℕ, ◌<◌, min, true, cond, get_or, sym, ap, ◌∙◌, subst, arith}
 use Rattle.std.proofs.lemmas.List.{drop-set-lt}
 use Rattle.paced.specs.Pace.{Fit}
 use Rattle.paced.specs.Tables.{row_at, demands_of}
-use Rattle.run.specs.States.{at_start, is_accepted}
+use Rattle.run.specs.States.{is_accepted}
 use Rattle.calls.specs.Events.{log_of}
 use Rattle.calls.specs.declared.Call.TheVariants.{Offer}
 use Rattle.guarantee.specs.Playing.{Fixed, Now, Did, Played}
