@@ -1,9 +1,13 @@
 // What gates and sources answer, from numbers that were worked out by hand.
 use crate::*;
 use arrivals::{Step, replay};
+use calls::{Answer, Call, Got};
+use guarantee::rehearse;
 use paced::rack::Rack;
 use paced::single::Paced;
-use refusal::Refusal;
+use plan::stages::OpenPlan;
+use plan::tasks::Limit;
+use refusal::{Fault, Refusal};
 use schedule::cyclic::Schedule;
 use source::pair::Pair;
 use source::{Gate, Source, offer_all};
@@ -397,4 +401,51 @@ fn replayed(rt: HostRuntime) {
     ];
     assert_eq!(rt; taken, right);
     assert_eq!(rt; number(replay(10, 10, &[1], &steps, &mut taken)), 7);
+}
+
+// A run over a gate of another author's, from a state that is not its first: one unit of its first store is gone. The task
+// needs its 2 units and the 3 and 2 of the stores, so its bound is 7.
+#[test]
+fn rehearsed(rt: HostRuntime) -> Result<(), Fail> {
+    let mut bank = Reserve::new(3, 2);
+    assert!(rt; bank.offer(1, 1));
+    bank.tick();
+    let mut plan = OpenPlan::new(bank);
+    let limit = Limit {
+        blocking: 0,
+        deadline: 40,
+        hold: 0,
+    };
+    plan.add(40, 0, limit, &[2])?;
+    let calls = [
+        Call::Offer(1, 3),
+        Call::Offer(1, 2),
+        Call::Offer(2, 1),
+        Call::Offer(3, 1),
+        Call::Release(1, 2),
+        Call::Tick,
+        Call::Tick,
+        Call::Tick,
+        Call::Tick,
+        Call::Tick,
+        Call::Tick,
+    ];
+    let mut answers = [Answer::Done; 12];
+    let _ = rehearse(plan, &calls, &mut answers);
+    let want = [
+        Answer::Refused(Refusal::plain(Fault::UnitsNotAllowed)),
+        Answer::Done,
+        Answer::Done,
+        Answer::Refused(Refusal::plain(Fault::NoSuchNumber)),
+        Answer::Done,
+        Answer::Ticked(Got::Part(1)),
+        Answer::Ticked(Got::Part(1)),
+        Answer::Ticked(Got::Part(2)),
+        Answer::Ticked(Got::Task(1, 0)),
+        Answer::Ticked(Got::Task(1, 5)),
+        Answer::Ticked(Got::Nobody),
+        Answer::Done,
+    ];
+    assert_eq!(rt; answers, want);
+    Ok(())
 }
