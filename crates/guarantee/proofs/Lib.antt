@@ -6,3 +6,4 @@ pub mod Ticking
 pub mod Linking
 pub mod Promising
 pub mod Played
+pub mod Exampled

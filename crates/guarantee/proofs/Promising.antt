@@ -5,21 +5,22 @@ use Rattle.std.proofs.lemmas.List.{get_or-replicate, length-replicate}
 use Rattle.std.proofs.Math.ListN.{get_or-eq_default}
 use Rattle.source.specs.Facts.{Sound, Driven}
 use Rattle.paced.specs.Pace.{Fit}
-use Rattle.paced.specs.Tables.{row_at, demands_of}
+use Rattle.paced.specs.Tables.{row_at}
 use Rattle.paced.specs.declared.row.Row.{Row}
 use Rattle.plan.specs.Judged.{Bounded, Judged}
 use Rattle.plan.specs.Limits.{limit_at}
 use Rattle.plan.specs.declared.tasks.Limit.{Limit}
 use Rattle.plan.specs.declared.verdict.Verdict.{Verdict}
 use Rattle.plan.specs.declared.verdict.Verdict.TheVariants.{Accepted, NotJudgeable, Late}
-use Rattle.calls.specs.Events.{log_of}
+use Rattle.calls.specs.Events.{Event, log_of}
+use Rattle.calls.specs.Rules.{NeverLate, NeverMore}
 use Rattle.calls.specs.States as model
 use Rattle.calls.specs.declared.Answer.{Answer}
 use Rattle.calls.specs.declared.Call.{Call}
 use Rattle.calls.proofs.Guaranteeing.{guaranteed}
 use Rattle.run.specs.States.{no_job, at_start, hold_of, is_accepted}
 use Rattle.guarantee.specs.Playing.{Now, Played}
-use Rattle.guarantee.specs.Promise.{Acceptable, Keeps, begun}
+use Rattle.guarantee.specs.Promise.{Acceptable, Modelled, begun}
 use Rattle.guarantee.specs.Views.{plan_of, view_of}
 use Rattle.guarantee.proofs.Linking.{Inside, leads, fits}
 use Rattle.guarantee.proofs.Steady.{steady-start}
@@ -41,7 +42,7 @@ accepted-bounds d n limits m rows NotJudgeable bounds j ok = let z : ◌≡◌ {
 accepted-bounds d n limits m rows (Late k) bounds j ok = let z : ◌≡◌ {A = ℕ} 0 1 = cc in absurd (omega arith)
 
 -- a list of one value alone reads as that value
-all-same : {A : Type 0} (n i : ℕ) (d : A) → get_or (replicate n d) i d ≡ d
+pub all-same : {A : Type 0} (n i : ℕ) (d : A) → get_or (replicate n d) i d ≡ d
 all-same n i d = elim (cases_lt i n) [ inl within ↦ get_or-replicate n i d d within | inr past ↦ get_or-eq_default (replicate n d) d (omega (arith, length-replicate n d)) ]
 
 either-zero : (b : Bool) (x : ℕ) → x ≡ 0 → cond b x 0 ≡ 0
@@ -83,10 +84,17 @@ module _ {S : Type 0} (parts : S → ℕ) (demanded allowed : S → ℕ → ℕ 
         held = refl;
       }
 
-  -- whatever the calls
-  pub keeps : (calls : List Call) (as' : List Answer) (t : Now S) → Played allowed takes ticks (record { accepted = true; parts = parts bank; tasks = m; limits = limits }) calls as' (begun bank rows) t → Keeps (demanded bank) (demands_of m (row_at rows)) bounds (log_of calls as')
-  keeps calls as' t played =
+  -- whatever the calls, they lead from the start of the model's run to its end
+  pub modelled : (calls : List Call) (as' : List Answer) (t : Now S) → Played allowed takes ticks (record { accepted = true; parts = parts bank; tasks = m; limits = limits }) calls as' (begun bank rows) t → Modelled plan (view_of (allowed bank) m rows at_start) (view_of (allowed t.bank) m t.rows t.state) (log_of calls as')
+  modelled calls as' t played =
       let bounded : (i : ℕ) → i < m → get_or bounds i 0 ≤ (limit_at limits i).deadline = λ i h. (right.1 i h).1 in
-      let led = leads parts demanded allowed takes ticks sound driven (parts bank) (demanded bank) m rows limits bounds right.0 few deadlines bounded calls as' (begun bank rows) t inside played in
-      let first = fits parts demanded allowed takes ticks sound driven (parts bank) (demanded bank) m rows limits bounds right.0 few deadlines bounded (begun bank rows) inside in
-      guaranteed plan model-accepted (view_of (allowed bank) m rows at_start) (view_of (allowed t.bank) m t.rows t.state) (log_of calls as') fresh first led
+      record {
+        accepted = model-accepted;
+        fresh = fresh;
+        fits = fits parts demanded allowed takes ticks sound driven (parts bank) (demanded bank) m rows limits bounds right.0 few deadlines bounded (begun bank rows) inside;
+        leads = leads parts demanded allowed takes ticks sound driven (parts bank) (demanded bank) m rows limits bounds right.0 few deadlines bounded calls as' (begun bank rows) t inside played;
+      }
+
+-- the log of what the model does keeps both rules
+pub model-keeps : (p : model.Plan) (s t : model.State) (log : List Event) → Modelled p s t log → NeverLate p.bound log × NeverMore p.demand p.task_demand log
+model-keeps p s t log h = guaranteed p h.accepted s t log h.fresh h.fits h.leads

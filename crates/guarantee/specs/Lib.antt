@@ -1,3 +1,4 @@
 pub mod Views
 pub mod Playing
 pub mod Promise
+pub mod Example

@@ -6,6 +6,8 @@ use Rattle.plan.specs.Needs.{needed}
 use Rattle.plan.specs.declared.tasks.Limit.{Limit}
 use Rattle.calls.specs.Events.{Event}
 use Rattle.calls.specs.Rules.{NeverLate, NeverMore}
+use Rattle.calls.specs.States as model
+use Rattle.calls.specs.Steps.{Leads}
 use Rattle.run.specs.States.{at_start}
 use Rattle.guarantee.specs.Playing.{Now}
 
@@ -25,3 +27,11 @@ Keeps d e bounds log = NeverLate (bound_of bounds) log × NeverMore d e log
 -- a run at its start
 abbrev pub begun : {S : Type 0} → S → List Row → Now S
 begun bank rows = record { bank = bank; rows = rows; state = at_start }
+
+-- the plan p of the model is accepted, s is a run of it at its start, and the calls of the log lead from s to t by the steps of
+-- the model, which say for each call, part by part and task by task, what it changes, and for a tick who gets the unit
+pub record Modelled (p : model.Plan) (s t : model.State) (log : List Event) : Type 0 where
+  pub accepted : model.Accepted p
+  pub fresh : model.Fresh s
+  pub fits : model.Fits p s
+  pub leads : Leads p s log t

@@ -7,9 +7,11 @@ ghost use Rattle.paced.specs.Tables.{row_at, demands_of};
 ghost use Rattle.plan.specs.Judged.{Judged};
 ghost use Rattle.plan.specs.declared.verdict.Verdict.{Verdict};
 ghost use Rattle.calls.specs.Events.{log_of};
-ghost use Rattle.run.specs.States.{is_accepted};
+ghost use Rattle.run.specs.States.{at_start, is_accepted};
 ghost use Rattle.guarantee.specs.Playing.{Did, Played};
-ghost use Rattle.guarantee.specs.Promise.{Acceptable, Keeps, begun};
+ghost use Rattle.guarantee.specs.Example.{Example};
+ghost use Rattle.guarantee.specs.Promise.{Acceptable, Keeps, Modelled, begun};
+ghost use Rattle.guarantee.specs.Views.{plan_of, view_of};
 
 pub mod making;
 
@@ -23,8 +25,11 @@ use source::Gate;
 // calls are unchanged.
 pub fn rehearse<G: Gate>(plan: OpenPlan<G>, calls: &[Call], answers: &mut [Answer]) -> Run<G>
     ensures judged { (v : Verdict) × Judged (G.Source.demanded plan.bank) (G.Source.parts plan.bank) plan.tasks.limits plan.tasks.parts.count plan.tasks.parts.rows v result.bounds × (result.accepted ≡ is_accepted v) }
+    ensures parts { result.accepted ≡ true → result.parts ≡ G.Source.parts plan.bank }
+    ensures fixed { (result.limits ≡ plan.tasks.limits) × (result.table.count ≡ plan.tasks.parts.count) }
     ensures played { Played G.Source.allowed G.Gate.takes G.Gate.ticks (record { accepted = result.accepted; parts = result.parts; tasks = plan.tasks.parts.count; limits = plan.tasks.limits }) calls.now answers.new (begun plan.bank plan.tasks.parts.rows) (record { bank = result.bank; rows = result.table.rows; state = result.state }) }
     ensures guaranteed { Acceptable (G.Source.demanded plan.bank) (G.Source.parts plan.bank) plan.tasks.limits plan.tasks.parts.count plan.tasks.parts.rows → (result.accepted ≡ true) × Keeps (G.Source.demanded plan.bank) (demands_of plan.tasks.parts.count (row_at plan.tasks.parts.rows)) result.bounds (log_of calls.now answers.new) }
+    ensures stepped { Acceptable (G.Source.demanded plan.bank) (G.Source.parts plan.bank) plan.tasks.limits plan.tasks.parts.count plan.tasks.parts.rows → Modelled (plan_of (G.Source.parts plan.bank) (G.Source.demanded plan.bank) plan.tasks.parts.count plan.tasks.parts.rows plan.tasks.limits result.bounds) (view_of (G.Source.allowed plan.bank) plan.tasks.parts.count plan.tasks.parts.rows at_start) (view_of (G.Source.allowed result.bank) plan.tasks.parts.count result.table.rows result.state) (log_of calls.now answers.new) }
     ensures rest { drop (length calls.now) answers.new ≡ drop (length calls.now) answers.old }
 {
     let mut run = Run::start(plan.judge());
@@ -33,4 +38,13 @@ pub fn rehearse<G: Gate>(plan: OpenPlan<G>, calls: &[Call], answers: &mut [Answe
         answers[place] = make(&mut run, calls[place]);
     }
     run
+}
+
+// How many tasks the plan of the example has. That there is a gate, an acceptable plan over it, and a list of calls in which an
+// offer is taken, a job is released, a hold is granted, a call is refused and a tick ends a job, is what this function promises.
+pub fn example() -> u32
+    ensures tasks { result ≡ 1 }
+    ensures example { Example }
+{
+    1
 }

@@ -1,14 +1,15 @@
 use Rattle.std.proofs.Common.{◌≡◌, ℕ, ◌<◌, min, true, cond, get_or, sym, ap, ◌∙◌, subst, arith}
 use Rattle.std.proofs.lemmas.List.{drop-set-lt}
 use Rattle.paced.specs.Pace.{Fit}
-use Rattle.paced.specs.Tables.{row_at, demands_of}
-use Rattle.run.specs.States.{is_accepted}
+use Rattle.paced.specs.Tables.{row_at}
+use Rattle.run.specs.States.{at_start, is_accepted}
 use Rattle.calls.specs.Events.{log_of}
 use Rattle.calls.specs.declared.Call.TheVariants.{Offer}
 use Rattle.guarantee.specs.Playing.{Fixed, Now, Did, Played}
-use Rattle.guarantee.specs.Promise.{begun, Keeps}
+use Rattle.guarantee.specs.Promise.{begun, Modelled}
+use Rattle.guarantee.specs.Views.{plan_of, view_of}
 use Rattle.guarantee.proofs.Played.{played-more, played-whole}
-use Rattle.guarantee.proofs.Promising.{acceptable-accepted, keeps}
+use Rattle.guarantee.proofs.Promising.{acceptable-accepted, accepted-bounds, modelled, model-keeps}
 use Rattle.guarantee.proofs.rehearse.Goals as goal
 
 pub loop-place-preserved : goal.loop-place-preserved
@@ -57,8 +58,21 @@ returns-clause-played g c =
     let turned = subst (λ f. Played g.G.Source.allowed g.G.Gate.takes g.G.Gate.ticks f c.args.calls.now c.loop-place.answers start end) same whole in
     subst (λ s. Played g.G.Source.allowed g.G.Gate.takes g.G.Gate.ticks here c.args.calls.now c.loop-place.answers s end) begin turned
 
-pub returns-clause-guaranteed : goal.returns-clause-guaranteed
-returns-clause-guaranteed g c ok =
+pub returns-clause-parts : goal.returns-clause-parts
+returns-clause-parts g c taken =
+    let inv = c.loop-place.invariant in
+    let begins = c.start-run.ensures in
+    let plan = c.args.plan in
+    let tasks = plan.tasks in
+    let table = tasks.parts in
+    let v = c.judge.result.verdict in
+    let parts = g.G.Source.parts in
+    let accepted : is_accepted v ≡ true = sym begins.accepted ∙ sym inv.accepted ∙ taken in
+    let few = (accepted-bounds (g.G.Source.demanded plan.bank) (parts plan.bank) tasks.limits table.count table.rows v c.judge.result.bounds c.judge.ensures.judged accepted).0 in
+    inv.parts ∙ begins.parts ∙ ap (λ b. cond b (min (parts c.judge.result.bank) 16) 0) accepted ∙ ap (λ b. min (parts b) 16) c.judge.ensures.bank ∙ omega (arith, few)
+
+pub returns-clause-stepped : goal.returns-clause-stepped
+returns-clause-stepped g c ok =
     let inv = c.loop-place.invariant in
     let run = c.loop-place.run in
     let begins = c.start-run.ensures in
@@ -67,16 +81,32 @@ returns-clause-guaranteed g c ok =
     let table = tasks.parts in
     let v = c.judge.result.verdict in
     let parts = g.G.Source.parts in
+    let demanded = g.G.Source.demanded in
+    let allowed = g.G.Source.allowed in
     let judged = c.judge.ensures.judged in
-    let accepted : is_accepted v ≡ true = acceptable-accepted (g.G.Source.demanded plan.bank) (parts plan.bank) tasks.limits table.count table.rows v c.judge.result.bounds judged ok in
+    let accepted : is_accepted v ≡ true = acceptable-accepted (demanded plan.bank) (parts plan.bank) tasks.limits table.count table.rows v c.judge.result.bounds judged ok in
     let taken : run.accepted ≡ true = inv.accepted ∙ begins.accepted ∙ accepted in
     let bounds : run.bounds ≡ c.judge.result.bounds = inv.bounds ∙ begins.bounds in
-    let many : run.parts ≡ parts plan.bank = inv.parts ∙ begins.parts ∙ ap (λ b. cond b (min (parts c.judge.result.bank) 16) 0) accepted ∙ ap (λ b. min (parts b) 16) c.judge.ensures.bank ∙ omega (arith, ok.1) in
+    let many : run.parts ≡ parts plan.bank = returns-clause-parts g c taken in
     let here : Fixed = record { accepted = run.accepted; parts = run.parts; tasks = table.count; limits = tasks.limits } in
     let full : Fixed = record { accepted = true; parts = parts plan.bank; tasks = table.count; limits = tasks.limits } in
     let same : here ≡ full = λ k. record { accepted = taken k; parts = many k; tasks = table.count; limits = tasks.limits } in
     let end : Now g.row.G.Denot = record { bank = run.bank; rows = run.table.rows; state = run.state } in
-    let played = subst (λ f. Played g.G.Source.allowed g.G.Gate.takes g.G.Gate.ticks f c.args.calls.now c.loop-place.answers (begun plan.bank table.rows) end) same (returns-clause-played g c) in
+    let played = subst (λ f. Played allowed g.G.Gate.takes g.G.Gate.ticks f c.args.calls.now c.loop-place.answers (begun plan.bank table.rows) end) same (returns-clause-played g c) in
     let fit : (i : ℕ) → i < table.count → Fit (row_at table.rows i) = λ i h. record { paces = table.paces i h; places = table.places i h; costs = table.costs i h } in
-    let kept = keeps parts g.G.Source.demanded g.G.Source.allowed g.G.Gate.takes g.G.Gate.ticks g.met.G.Source.sound g.met.G.Gate.driven plan.bank table.count table.rows tasks.limits c.judge.result.bounds v table.few (omega (arith, table.held, table.few)) fit tasks.deadlines tasks.holds judged accepted c.args.calls.now c.loop-place.answers end played in
-    (taken, subst (λ bs. Keeps (g.G.Source.demanded plan.bank) (demands_of table.count (row_at table.rows)) bs (log_of c.args.calls.now c.loop-place.answers)) (sym bounds) kept)
+    let model = modelled parts demanded allowed g.G.Gate.takes g.G.Gate.ticks g.met.G.Source.sound g.met.G.Gate.driven plan.bank table.count table.rows tasks.limits c.judge.result.bounds v table.few (omega (arith, table.held, table.few)) fit tasks.deadlines tasks.holds judged accepted c.args.calls.now c.loop-place.answers end played in
+    subst (λ bs. Modelled (plan_of (parts plan.bank) (demanded plan.bank) table.count table.rows tasks.limits bs) (view_of (allowed plan.bank) table.count table.rows at_start) (view_of (allowed run.bank) table.count run.table.rows run.state) (log_of c.args.calls.now c.loop-place.answers)) (sym bounds) model
+
+pub returns-clause-guaranteed : goal.returns-clause-guaranteed
+returns-clause-guaranteed g c ok =
+    let plan = c.args.plan in
+    let table = plan.tasks.parts in
+    let accepted : is_accepted c.judge.result.verdict ≡ true = acceptable-accepted (g.G.Source.demanded plan.bank) (g.G.Source.parts plan.bank) plan.tasks.limits table.count table.rows c.judge.result.verdict c.judge.result.bounds c.judge.ensures.judged ok in
+    (c.loop-place.invariant.accepted ∙ c.start-run.ensures.accepted ∙ accepted, model-keeps _ _ _ _ (returns-clause-stepped g c ok))
+
+pub returns-clause-fixed : goal.returns-clause-fixed
+returns-clause-fixed g c =
+    let inv = c.loop-place.invariant in
+    let begins = c.start-run.ensures in
+    let tasks = c.judge.ensures.tasks in
+    (inv.limits ∙ begins.limits ∙ ap (λ t. t.limits) tasks, inv.tasks ∙ ap (λ t. t.count) begins.table ∙ ap (λ t. t.parts.count) tasks)
