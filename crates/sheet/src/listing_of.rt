@@ -1,5 +1,6 @@
 // The listing of a sheet.
 ghost use Rattle.std.specs.Prelude.{◌≡◌, ℕ, ◌<◌, ◌≤◌, List, ◌++◌, length, drop, MatchResult, OnOk};
+ghost use Rattle.words.specs.Split.{OnlyCut};
 ghost use Rattle.listing.specs.Listings.{listing_text, too_short};
 ghost use Rattle.sheet.specs.Marking.{Listed, OnlyListed};
 
@@ -17,10 +18,11 @@ fn listing_of(sheet: &[u8]) -> Listing
     }
 }
 
-// The same, with the law that nothing else is listed of it.
+// The same, with the laws that nothing else is listed of it, and that its lines are the only ones.
 fn only_listing_of(sheet: &[u8]) -> Listing
     ensures listed { Listed sheet.now (listing_text result) }
     ensures only { OnlyListed sheet.now }
+    ensures lines { OnlyCut 10 sheet.now }
 {
     listing_of(sheet)
 }
@@ -30,6 +32,7 @@ fn only_listing_of(sheet: &[u8]) -> Listing
 pub fn list(sheet: &[u8], buffer: &mut [u8]) -> Result<usize, Refusal>
     ensures listed { MatchResult result (λ n. (2048 ≤ length buffer.old) × ((text : List ℕ) × Listed sheet.now text × (n ≡ length text) × (buffer.new ≡ text ++ drop n buffer.old))) (λ e. (e ≡ too_short) × (length buffer.old < 2048) × (buffer.new ≡ buffer.old)) }
     ensures only { OnOk result (OnlyListed sheet.now) }
+    ensures lines { OnOk result (OnlyCut 10 sheet.now) }
 {
     if buffer.len() < ROOM {
         return Err(Refusal::plain(Fault::BufferTooShort));
