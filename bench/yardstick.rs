@@ -157,32 +157,84 @@ struct Plan {
 
 // Reading a sheet
 
-enum Word<'a> {
-    Letters(&'a [u8]),
-    Number(u64),
+/// Room for the numbers of the longest row.
+const MOST_NUMBERS: usize = 5 + MOST_COSTS;
+
+/// The words of one line: the first one, and the numbers behind it.
+struct Words<'a> {
+    first: &'a [u8],
+    numbers: [u64; MOST_NUMBERS],
+    /// How many words stand behind the first, also if they are more than there is room for.
+    count: usize,
+    /// Whether all of these are numbers.
+    only_numbers: bool,
+    /// The bytes behind the line.
+    rest: &'a [u8],
 }
 
-/// The word that these bytes are, all of them letters or digits; nothing if they are none.
-fn read_word(bytes: &[u8]) -> Option<Word<'_>> {
-    match bytes {
-        [] => None,
-        [b'a'..=b'z', ..] => bytes.iter().all(u8::is_ascii_lowercase).then_some(Word::Letters(bytes)),
-        [b'0'] => Some(Word::Number(0)),
-        [b'0', ..] => None,
-        _ => {
-            let mut number = 0;
-            for byte in bytes {
-                if !byte.is_ascii_digit() {
-                    return None;
-                }
-                number = 10 * number + u64::from(byte - b'0');
-                if number > LARGEST_NUMBER {
-                    return None;
+/// Reads the line with which the text begins, or gives the number of its refusal.
+fn read_words(text: &[u8]) -> Result<Words<'_>, u8> {
+    let mut words = Words { first: &[], numbers: [0; MOST_NUMBERS], count: 0, only_numbers: true, rest: &[] };
+    let mut at = 0;
+    loop {
+        let start = at;
+        let mut number = None;
+        match text.get(at) {
+            Some(b'a'..=b'z') => {
+                while let Some(b'a'..=b'z') = text.get(at) {
+                    at += 1;
                 }
             }
-            Some(Word::Number(number))
+            Some(b'0'..=b'9') => {
+                let mut value = 0;
+                while let Some(digit @ b'0'..=b'9') = text.get(at) {
+                    value = 10 * value + u64::from(digit - b'0');
+                    at += 1;
+                    if value > LARGEST_NUMBER {
+                        return Err(bad_word(&text[at..]));
+                    }
+                }
+                if text[start] == b'0' && at > start + 1 {
+                    return Err(bad_word(&text[at..]));
+                }
+                number = Some(value);
+            }
+            _ => return Err(bad_word(&text[at..])),
+        }
+
+        if start == 0 {
+            words.first = &text[..at];
+        } else {
+            match number {
+                Some(value) if words.count < MOST_NUMBERS => words.numbers[words.count] = value,
+                Some(_) => {}
+                None => words.only_numbers = false,
+            }
+            words.count += 1;
+        }
+
+        match text.get(at) {
+            Some(b' ') => at += 1,
+            Some(b'\n') => {
+                words.rest = &text[at + 1..];
+                return Ok(words);
+            }
+            _ => return Err(bad_word(&text[at..])),
         }
     }
+}
+
+/// The refusal of a line with a bad word, of which this is the rest: a foreign byte further on, or a missing line feed, comes
+/// before the bad word.
+fn bad_word(rest: &[u8]) -> u8 {
+    for byte in rest {
+        match byte {
+            b'a'..=b'z' | b'0'..=b'9' | b' ' => {}
+            b'\n' => return 3,
+            _ => return 2,
+        }
+    }
+    2
 }
 
 /// The rows of a sheet in their order.
@@ -193,9 +245,6 @@ enum Row {
     Irq,
     Task,
 }
-
-/// Room for the numbers of the longest row.
-const MOST_NUMBERS: usize = 5 + MOST_COSTS;
 
 /// What has been read of a sheet so far.
 struct Reader {
@@ -222,36 +271,14 @@ impl Reader {
         }
     }
 
-    /// Takes one line, without its line feed, or gives the smallest number of a refusal that applies.
-    fn take(&mut self, text: &[u8], line: usize) -> Result<(), u8> {
-        let known = |byte: &u8| matches!(byte, b'a'..=b'z' | b'0'..=b'9' | b' ');
-        if !text.iter().all(known) {
-            return Err(2);
-        }
-
-        // every word is looked at before the row is, for a bad word comes before a bad line
-        let mut keyword = None;
-        let mut all_numbers = true;
-        let mut numbers = [0; MOST_NUMBERS];
-        let mut count = 0;
-        for (place, piece) in text.split(|byte| *byte == b' ').enumerate() {
-            match read_word(piece).ok_or(3)? {
-                Word::Letters(letters) if place == 0 => keyword = Some(letters),
-                Word::Number(number) if place > 0 => {
-                    if count < MOST_NUMBERS {
-                        numbers[count] = number;
-                    }
-                    count += 1;
-                }
-                _ => all_numbers = false,
-            }
-        }
-
-        let row = match keyword {
-            Some(b"cycle") => Row::Cycle,
-            Some(b"at") => Row::At,
-            Some(b"irq") => Row::Irq,
-            Some(b"task") => Row::Task,
+    /// Takes the words of one line, or gives the smallest number of a refusal that applies.
+    fn take(&mut self, words: &Words, line: usize) -> Result<(), u8> {
+        let Words { ref numbers, count, .. } = *words;
+        let row = match words.first {
+            b"cycle" => Row::Cycle,
+            b"at" => Row::At,
+            b"irq" => Row::Irq,
+            b"task" => Row::Task,
             _ => return Err(4),
         };
         let in_order = match self.last {
@@ -265,7 +292,7 @@ impl Reader {
             Row::Task => (5, true),
         };
         let enough = if has_costs { count > before_costs } else { count == before_costs };
-        if !all_numbers || !in_order || !enough {
+        if !words.only_numbers || !in_order || !enough {
             return Err(4);
         }
 
@@ -286,7 +313,7 @@ impl Reader {
             Row::At => self.take_pair(numbers[0], numbers[1]),
             Row::Irq => self.take_interrupt(numbers[0], numbers[1], costs),
             Row::Task => {
-                let [period, jitter, blocking, deadline, hold, ..] = numbers;
+                let [period, jitter, blocking, deadline, hold, ..] = *numbers;
                 let task = Task { line, paced: Paced::new(period, jitter, costs), blocking, deadline };
                 self.take_task(task, hold)
             }
@@ -350,12 +377,14 @@ fn read_sheet(sheet: &[u8]) -> Result<Plan, Refusal> {
         return Err(Refusal { number: 4, line: 1 });
     }
     let mut reader = Reader::new();
-    for (place, piece) in sheet.split_inclusive(|byte| *byte == b'\n').enumerate() {
-        let line = place + 1;
-        let Some(text) = piece.strip_suffix(b"\n") else {
-            return Err(Refusal { number: 2, line });
-        };
-        reader.take(text, line).map_err(|number| Refusal { number, line })?;
+    let mut text = sheet;
+    let mut line = 0;
+    while !text.is_empty() {
+        line += 1;
+        let refused = |number| Refusal { number, line };
+        let words = read_words(text).map_err(refused)?;
+        reader.take(&words, line).map_err(refused)?;
+        text = words.rest;
     }
     Ok(reader.plan)
 }
