@@ -1,0 +1,40 @@
+-- The law of a row.
+use Rattle.std.proofs.Common.{◌≡◌, ℕ, ◌+◌, List, [], ◌∷◌, ◌++◌, length, get_or, ap, ◌∙◌, refl, length-append, arith}
+use Rattle.std.proofs.lemmas.List.{get_or-append-add}
+use Rattle.calls.specs.declared.Call.{Call}
+use Rattle.calls.specs.declared.Call.TheVariants.{Offer, Release, Hold, LetGo, End, Tick}
+use Rattle.calls.specs.declared.Got.{Got}
+use Rattle.calls.specs.declared.Answer.{Answer}
+use Rattle.calls.specs.declared.Answer.TheVariants.{Done, Refused, Ticked}
+use Rattle.calls.specs.Events.{Event}
+use Rattle.timeline.specs.Rows.{passed, passed_in, added, cells, RowOf}
+use Rattle.timeline.proofs.Cells.{cells-split}
+
+added-length : (cell : Got → ℕ) (call : Call) (answer : Answer) → length (added cell call answer) ≡ passed_in call answer
+added-length cell (Offer k u) answer = refl
+added-length cell (Release i u) answer = refl
+added-length cell (Hold i u) answer = refl
+added-length cell (LetGo i) answer = refl
+added-length cell (End i) answer = refl
+added-length cell Tick Done = refl
+added-length cell Tick (Refused e) = refl
+added-length cell Tick (Ticked got) = refl
+
+cells-length : (cell : List Event → Got → ℕ) (before log : List Event) → length (cells cell before log) ≡ passed log
+cells-length cell before [] = refl
+cells-length cell before (e ∷ log) = length-append (added (cell before) e.call e.answer) (cells cell (before ++ (e ∷ [])) log) ∙ (λ j. added-length (cell before) e.call e.answer j + cells-length cell (before ++ (e ∷ [])) log j)
+
+-- the cell of a tick that passed, with these calls before it
+at-tick : (cell : List Event → Got → ℕ) (before rest : List Event) (got : Got) → get_or (cells cell [] (before ++ (record { call = Tick; answer = Ticked got } ∷ rest))) (passed before) 0 ≡ cell before got
+at-tick cell before rest got =
+    let tick : Event = record { call = Tick; answer = Ticked got } in
+    let front = cells cell [] before in
+    let back = cell before got ∷ cells cell (before ++ (tick ∷ [])) rest in
+    let here : passed before ≡ length front + 0 = omega (arith, cells-length cell [] before) in
+    (λ j. get_or (cells-split cell [] before (tick ∷ rest) j) (here j) 0) ∙ get_or-append-add front back 0 0
+
+pub row-law : (cell : List Event → Got → ℕ) (log : List Event) (row : List ℕ) → row ≡ cells cell [] log → RowOf cell log row
+row-law cell log row is = record {
+  many = ap length is ∙ cells-length cell [] log;
+  each = λ before rest got cut. ap (λ r. get_or r (passed before) 0) (is ∙ ap (cells cell []) cut) ∙ at-tick cell before rest got;
+}
