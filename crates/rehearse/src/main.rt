@@ -1,23 +1,39 @@
 // Rehearses a run: reads a plan sheet, an empty line and then one call a line from standard input, makes the calls on a run of
-// the sheet's plan, and writes one line for each answer to standard output.
+// the sheet's plan, and writes one line for each answer to standard output, or with the argument `timeline` a picture of the run.
 #![tactic(auto)]
 
 use calls::{Answer, Call};
 use guarantee::rehearse;
 use listing::{Listing, ROOM, write_listing};
 use paced::rack::Rack;
-use plan::stages::OpenPlan;
+use plan::stages::{OpenPlan, Parts};
 use refusal::Refusal;
 use schedule::cyclic::Schedule;
 use sheet::read_plan;
+use source::Source;
 use source::pair::Pair;
 use std::alloc::{AllocError, Global};
-use std::io::{Read, Write};
+use std::env;
+use std::io::{self, Read, Write};
+use std::process::ExitCode;
+use timeline::draw;
 use transcript::{Line, call_of};
 use words::split::first_line;
 
 // How many bytes the whole input may have.
 const LONGEST_INPUT: usize = 1_000_000;
+
+// The status with which the program ends if it does not know its arguments.
+const UNKNOWN_ARGUMENTS: u8 = 2;
+
+// What is written of a run.
+#[derive(Clone, Copy, PartialEq, Eq, Debug)]
+enum View {
+    // The line of each answer.
+    Answers,
+    // The timeline.
+    Timeline,
+}
 
 // How many bytes of the input are the sheet: those before its first empty line, or all.
 fn sheet_length(input: &[u8]) -> usize {
@@ -69,25 +85,51 @@ fn no_plan() -> Result<OpenPlan<Pair<Rack, Schedule>>, Refusal> {
     Ok(OpenPlan::new(Pair::new(Rack::new(), schedule)))
 }
 
-// Makes the calls on a run of the plan, and writes the line of each answer.
+// Makes the calls on a run of the plan, and gives their answers.
+fn answers_of(
+    heap: Global,
+    plan: OpenPlan<Pair<Rack, Schedule>>,
+    calls: &[Call],
+) -> Result<Vec<Answer>, AllocError> {
+    let mut answers: Vec<Answer> = Vec::new(heap);
+    for _ in calls {
+        answers.push(Answer::Done)?;
+    }
+    let _ = rehearse(plan, calls, &mut answers);
+    Ok(answers)
+}
+
+// Writes the line of each answer.
 fn print_answers(
     rt: &HostRuntime,
     plan: OpenPlan<Pair<Rack, Schedule>>,
     calls: &[Call],
 ) -> anyhow::Result<()> {
-    let mut answers: Vec<Answer> = Vec::new(rt.alloc());
-    for _ in calls {
-        answers.push(Answer::Done)?;
-    }
-    let _ = rehearse(plan, calls, &mut answers);
+    let answers = answers_of(rt.alloc(), plan, calls)?;
     for answer in &answers {
         println!(rt; "{}", Line(*answer))?;
     }
     Ok(())
 }
 
+// Writes the timeline of the run, with a row for each part of the bank and each task of the plan.
+fn print_timeline(
+    rt: &HostRuntime,
+    plan: OpenPlan<Pair<Rack, Schedule>>,
+    calls: &[Call],
+) -> anyhow::Result<()> {
+    // an open plan does not tell its counts: it is judged for them, and opened again
+    let Parts { bank, tasks, .. } = plan.judge().into_parts();
+    let part_count = bank.count();
+    let task_count = tasks.count();
+    let answers = answers_of(rt.alloc(), OpenPlan::with_tasks(bank, tasks), calls)?;
+    let text = draw(rt.alloc(), part_count, task_count, calls, &answers)?;
+    rt.stdout().write_all(&text)?;
+    Ok(())
+}
+
 // Rehearses what the input says.
-fn print_rehearsal(rt: &HostRuntime, input: &[u8]) -> anyhow::Result<()> {
+fn print_rehearsal(rt: &HostRuntime, view: View, input: &[u8]) -> anyhow::Result<()> {
     let Ok(mut plan) = no_plan() else {
         return Ok(());
     };
@@ -102,7 +144,10 @@ fn print_rehearsal(rt: &HostRuntime, input: &[u8]) -> anyhow::Result<()> {
         return Ok(());
     }
     match calls_of(rt.alloc(), text)? {
-        Ok(calls) => print_answers(rt, plan, &calls),
+        Ok(calls) => match view {
+            View::Answers => print_answers(rt, plan, &calls),
+            View::Timeline => print_timeline(rt, plan, &calls),
+        },
         Err(before) => {
             let line = lines_in(sheet).saturating_add(before).saturating_add(2);
             println!(rt; "bad call {line}")?;
@@ -111,7 +156,7 @@ fn print_rehearsal(rt: &HostRuntime, input: &[u8]) -> anyhow::Result<()> {
     }
 }
 
-fn run(rt: &HostRuntime) -> anyhow::Result<()> {
+fn run(rt: &HostRuntime, view: View) -> anyhow::Result<()> {
     let mut input: Vec<u8> = Vec::new(rt.alloc());
     // one byte more than the input may have is enough to see that it is too long
     rt.stdin()
@@ -121,9 +166,29 @@ fn run(rt: &HostRuntime) -> anyhow::Result<()> {
         println!(rt; "input too long")?;
         return Ok(());
     }
-    print_rehearsal(rt, &input)
+    print_rehearsal(rt, view, &input)
 }
 
-fn main(rt: HostRuntime) -> anyhow::Result<()> {
-    run(&rt)
+// What the arguments of the program ask for, if they are known.
+fn view_of(rt: &HostRuntime) -> io::Result<Option<View>> {
+    let mut arguments = match env::args(rt) {
+        Ok(arguments) => arguments,
+        Err(error) if error.kind() == io::ErrorKind::InvalidData => return Ok(None),
+        Err(error) => return Err(error),
+    };
+    let _program = arguments.next();
+    let Some(word) = arguments.next() else {
+        return Ok(Some(View::Answers));
+    };
+    let known = word.as_str() == "timeline" && arguments.next().is_none();
+    Ok(known.then_some(View::Timeline))
+}
+
+fn main(rt: HostRuntime) -> anyhow::Result<ExitCode> {
+    let Some(view) = view_of(&rt)? else {
+        eprintln!(rt; "rehearse takes no argument, or the word timeline")?;
+        return Ok(ExitCode::from(UNKNOWN_ARGUMENTS));
+    };
+    run(&rt, view)?;
+    Ok(ExitCode::SUCCESS)
 }
