@@ -1,13 +1,16 @@
 -- The law of a row.
-use Rattle.std.proofs.Common.{◌≡◌, ℕ, ◌+◌, List, [], ◌∷◌, ◌++◌, length, get_or, ap, ◌∙◌, refl, length-append, arith}
+use Rattle.std.proofs.Common.{◌≡◌, ℕ, ◌+◌, List, [], ◌∷◌, ◌++◌, Option, Some, None, cond, ◌==◌, length, get_or, ap, ◌∙◌, refl, length-append, arith}
+use Rattle.std.proofs.lemmas.Bool.Decides.{nat_tests}
 use Rattle.std.proofs.lemmas.List.{get_or-append-add}
 use Rattle.calls.specs.declared.Call.{Call}
 use Rattle.calls.specs.declared.Call.TheVariants.{Offer, Release, Hold, LetGo, End, Tick}
 use Rattle.calls.specs.declared.Got.{Got}
+use Rattle.calls.specs.declared.Got.TheVariants.{Task}
 use Rattle.calls.specs.declared.Answer.{Answer}
 use Rattle.calls.specs.declared.Answer.TheVariants.{Done, Refused, Ticked}
 use Rattle.calls.specs.Events.{Event}
-use Rattle.timeline.specs.Rows.{passed, passed_in, added, cells, RowOf}
+use Rattle.calls.specs.Jobs.{Job, job_of, end_age}
+use Rattle.timeline.specs.Rows.{passed, passed_in, added, cells, left_of, task_mark, task_cell, RowOf, ShowsEnds}
 use Rattle.timeline.proofs.Cells.{cells-split}
 
 added-length : (cell : Got → ℕ) (call : Call) (answer : Answer) → length (added cell call answer) ≡ passed_in call answer
@@ -38,3 +41,11 @@ row-law cell log row is = record {
   many = ap length is ∙ cells-length cell [] log;
   each = λ before rest got cut. ap (λ r. get_or r (passed before) 0) (is ∙ ap (cells cell []) cut) ∙ at-tick cell before rest got;
 }
+
+-- a task that gets a unit: the age at which its job ends is 0 just if that is not the last unit
+task-cell : (i : ℕ) (job : Option Job) (a : ℕ) → a ≡ end_age job → task_mark i (left_of job) (Task i a) ≡ cond (a == 0) 35 33
+task-cell i None a is = grind (arith, nat_tests)
+task-cell i (Some j) a is = grind (arith, nat_tests)
+
+pub shows-ends : (i : ℕ) (log : List Event) (row : List ℕ) → RowOf (task_cell i) log row → ShowsEnds i log row
+shows-ends i log row law bound late before rest a cut = law.each before rest (Task i a) cut ∙ task-cell i (job_of i before) a (late.ended before rest i a cut).0

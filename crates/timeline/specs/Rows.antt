@@ -8,6 +8,7 @@ use Rattle.calls.specs.declared.Answer.{Answer}
 use Rattle.calls.specs.declared.Answer.TheVariants.{Ticked}
 use Rattle.calls.specs.Events.{Event, let_in_part}
 use Rattle.calls.specs.Jobs.{Job, job_of}
+use Rattle.calls.specs.Rules.{NeverLate}
 
 -- whether it was part k that got the unit, and whether it was task i
 abbrev pub is_part : ℕ → Got → Bool
@@ -97,3 +98,8 @@ task_row i log = cells (task_cell i) [] log
 pub record RowOf (cell : List Event → Got → ℕ) (log : List Event) (row : List ℕ) : Type 0 where
   pub many : length row ≡ passed log
   pub each : (before rest : List Event) (got : Got) → log ≡ before ++ (record { call = Tick; answer = Ticked got } ∷ rest) → slice_index row (passed before) ≡ cell before got
+
+-- In the log of a run that is never late, the row of task i has ! just where an answer tells the age of a job that ended, and #
+-- where the task got a unit and the answer tells none.
+abbrev pub ShowsEnds : ℕ → List Event → List ℕ → Type 0
+ShowsEnds i log row = (bound : ℕ → ℕ) → NeverLate bound log → (before rest : List Event) (a : ℕ) → log ≡ before ++ (record { call = Tick; answer = Ticked (Task i a) } ∷ rest) → slice_index row (passed before) ≡ cond (a == 0) 35 33

@@ -1,7 +1,7 @@
 // The cells of a row.
 ghost use Rattle.std.specs.Prelude.{◌≡◌, ◌+◌, ◌-◌, ◌^◌, ◌<◌, ◌++◌, IfOk, OnOk};
 ghost use Rattle.calls.specs.Events.{part_units, log_of};
-ghost use Rattle.timeline.specs.Rows.{given_in, passed_in, part_mark, task_mark, ruler_mark, added, ruler, part_cell, task_cell, part_row, task_row, RowOf};
+ghost use Rattle.timeline.specs.Rows.{given_in, passed_in, part_mark, task_mark, ruler_mark, added, ruler, part_cell, task_cell, part_row, task_row, RowOf, ShowsEnds};
 ghost use Rattle.timeline.specs.Steps.{left_after};
 
 use calls::{Answer, Call, Got};
@@ -161,6 +161,7 @@ pub fn part_row(
     ensures law { IfOk result (λ row. RowOf (part_cell part) (log_of calls.now answers.now) row.items) }
 {
     let mut row = Vec::new(heap);
+    // how many units were let in for the part so far, and how many it got: as wide as the units of any list of calls
     let mut units: u128 = 0;
     let mut got: u128 = 0;
     for place in 0..calls.len().min(answers.len()) {
@@ -181,6 +182,7 @@ pub fn task_row(
 ) -> Result<Vec<u8>, AllocError>
     ensures row { IfOk result (λ row. row.items ≡ task_row task (log_of calls.now answers.now)) }
     ensures law { IfOk result (λ row. RowOf (task_cell task) (log_of calls.now answers.now) row.items) }
+    ensures ends { IfOk result (λ row. ShowsEnds task (log_of calls.now answers.now) row.items) }
 {
     let mut row = Vec::new(heap);
     let mut left: Option<u64> = None;

@@ -6,7 +6,7 @@ use Rattle.calls.specs.Jobs.{job_of}
 use Rattle.timeline.specs.Rows.{left_of, task_cell, task_row}
 use Rattle.timeline.specs.Steps.{left_after}
 use Rattle.timeline.proofs.Cells.{log_of-more, log_of-whole, carried-more, left-after, task_row-more, log_to}
-use Rattle.timeline.proofs.Laws.{row-law}
+use Rattle.timeline.proofs.Laws.{row-law, shows-ends}
 use Rattle.timeline.proofs.rows.task_row.Goals as goal
 
 pub loop-place-preserved : goal.loop-place-preserved
@@ -32,3 +32,6 @@ returns-clause-row c =
 
 pub returns-clause-law : goal.returns-clause-law
 returns-clause-law c = row-law (task_cell c.args.task) (log_of c.args.calls.now c.args.answers.now) c.loop-place.row.items (returns-clause-row c)
+
+pub returns-clause-ends : goal.returns-clause-ends
+returns-clause-ends c = shows-ends c.args.task (log_of c.args.calls.now c.args.answers.now) c.loop-place.row.items (returns-clause-law c)
