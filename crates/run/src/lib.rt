@@ -10,9 +10,11 @@ ghost use Rattle.run.specs.Faults.{named, offer_fault, release_fault, grantable,
 ghost use Rattle.run.specs.States.{at_start, left_of, hold_of, is_accepted};
 ghost use Rattle.run.specs.Steps.{grown, released, granted, let_go, ended, due, passed};
 
+mod driving;
 pub mod state;
 mod steps;
 
+use crate::driving::{given, offer_to, ticked};
 use crate::state::{Job, MOST_BACKLOG, PLACES, State};
 use calls::Got;
 use paced::table::Table;
@@ -222,7 +224,7 @@ impl<G: Gate> Run<G> {
             return Err(Refusal::plain(fault));
         }
         let state = steps::grown(self.state, part, units);
-        self.bank.offer(part, units);
+        offer_to(&mut self.bank, part, units);
         self.state = state;
         Ok(())
     }
@@ -242,9 +244,7 @@ impl<G: Gate> Run<G> {
         if let Some(fault) = self.release_fault(task, units) {
             return Err(Refusal::new(fault, 0, task));
         }
-        let mut table = self.table;
-        table.offer(task, units);
-        self.table = table;
+        self.table = given(self.table, task, units);
         self.state = steps::released(self.state, task, units);
         Ok(())
     }
@@ -320,10 +320,8 @@ impl<G: Gate> Run<G> {
         }
         let got = steps::due(self.state, self.parts, self.table.count());
         let state = steps::passed(self.state, got);
-        let mut table = self.table;
-        table.tick();
         self.bank.tick();
-        self.table = table;
+        self.table = ticked(self.table);
         self.state = state;
         Ok(got)
     }

@@ -8,11 +8,11 @@ pub invariant_of-self : goal.invariant_of-self
 invariant_of-self g c =
     let s = c.args.self.now in
     let n = s.table.count in
-    let t = c.tick.new.self in
+    let t = c.ticked-self.result in
     let got = c.due-got.result in
     let before : Steady s.limits n s.state = record { backlogs = s.backlogs_held; jobs = s.jobs_held; waiting = s.waiting; known = s.known; within = s.within; short = s.short } in
     let after : Steady s.limits n c.passed-state.result = subst (Steady s.limits n) (sym c.passed-state.ensures) (passed-steady s.limits n s.state before got c.due-got.ensures.placed) in
-    let moved = c.tick.ensures.ticks in
+    let moved = c.ticked-self.ensures.passes in
     let same : t.count ≡ n = moved.count in
     record {
       limits_held = s.limits_held;

@@ -6,7 +6,9 @@ use Rattle.run.proofs.Ticks.{foremost-within, task-placed}
 use Rattle.run.proofs.steps.due.Goals as goal
 
 pub returns-then-part-gt0-clause-placed : goal.returns-then-part-gt0-clause-placed
-returns-then-part-gt0-clause-placed c = (omega arith, omega (arith, c.first_backlog-part.ensures, first-within (backlog_of c.args.state.backlogs) c.args.parts, c.requires.parts))
+returns-then-part-gt0-clause-placed c =
+    let within = first-within (backlog_of c.args.state.backlogs) c.args.parts in
+    (omega (arith, c.first_backlog-part.ensures, within), omega (arith, c.first_backlog-part.ensures, within, c.requires.parts))
 
 pub due_task-requires : goal.due_task-requires
 due_task-requires c = omega (arith, c.foremost-task.ensures, foremost-within c.args.tasks c.args.state 16 c.requires.tasks c.requires.holder, c.requires.jobs)
