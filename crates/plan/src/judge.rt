@@ -32,7 +32,7 @@ fn find<S: Source>(bank: &S, tasks: &Tasks) -> Finding
         match window_of(bank, tasks, place) {
             Some(ticks) => bounds[place as usize] = ticks,
             None => return Finding {
-                verdict: Verdict::Late(place + 1),
+                verdict: Verdict::late(place),
                 bounds,
             },
         }

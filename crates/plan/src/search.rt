@@ -1,5 +1,5 @@
 // The search for the smallest window that holds what a task needs.
-ghost use Rattle.std.specs.Prelude.{◌≡◌, ℕ, ◌+◌, ◌<◌, ◌≤◌};
+ghost use Rattle.std.specs.Prelude.{◌≡◌, ℕ, ◌+◌, ◌^◌, ◌<◌, ◌≤◌};
 ghost use Rattle.plan.specs.Limits.{limit_at};
 ghost use Rattle.plan.specs.Needs.{total, needed, Searched};
 
@@ -22,6 +22,16 @@ fn total_of<S: Source>(source: &S, parts: u32, ticks: u32) -> u64
     all
 }
 
+// What a task needs in all: what it needs itself, and the demand of the bank and of the tasks above it.
+fn needed_with(own: u64, bank: u64, above: u64) -> u64
+    requires own { own < 2 ^ 33 }
+    requires bank { bank ≤ 160000000000000 }
+    requires above { above ≤ 160000000000000 }
+    ensures { result ≡ own + bank + above }
+{
+    own + bank + above
+}
+
 // What the task at a place needs of a window: its blocking, its largest cost, and all demand above it.
 fn need_of<S: Source>(bank: &S, tasks: &Tasks, place: u32, ticks: u32) -> u64
     requires few { S.Source.parts bank.now ≤ 16 }
@@ -31,7 +41,9 @@ fn need_of<S: Source>(bank: &S, tasks: &Tasks, place: u32, ticks: u32) -> u64
 {
     let own = tasks.own_need(place);
     let parts = bank.count();
-    own + total_of(bank, parts, ticks) + total_of(tasks.parts(), place, ticks)
+    let by_bank = total_of(bank, parts, ticks);
+    let by_tasks = total_of(tasks.parts(), place, ticks);
+    needed_with(own, by_bank, by_tasks)
 }
 
 // The smallest window of at most the deadline that holds what the task at a place needs, if there is one. It climbs: a

@@ -1,6 +1,7 @@
 // The judge's verdict on a plan.
-ghost use Rattle.std.specs.Prelude.{◌≡◌};
+ghost use Rattle.std.specs.Prelude.{◌≡◌, ◌+◌, ◌<◌};
 ghost use Rattle.plan.specs.Judged.{told, outcome_of, bounds_told};
+ghost use Rattle.plan.specs.declared.verdict.Verdict.TheVariants.{Late};
 
 use refusal::{Fault, Refusal};
 
@@ -15,6 +16,14 @@ pub enum Verdict {
 }
 
 impl Verdict {
+    // The task at a place, counted from 0, is the first that has no bound of at most its deadline.
+    pub(crate) fn late(place: u32) -> Verdict
+        requires { place < 16 }
+        ensures { result ≡ Late (place + 1) }
+    {
+        Verdict::Late(place + 1)
+    }
+
     // The number of the refusal that the verdict stands for, 0 if the plan is accepted.
     pub fn number(self) -> u32
         ensures { result ≡ (told self).number }

@@ -1,5 +1,6 @@
-use Rattle.std.proofs.Common.{◌≡◌, ◌<◌, length, get_or, ◌∙◌, subst, arith, length-set}
-use Rattle.plan.specs.Judged.{Bounded, Unbounded}
+use Rattle.std.proofs.Common.{◌≡◌, ◌+◌, ◌<◌, length, get_or, sym, ◌∙◌, subst, arith, length-set}
+use Rattle.plan.specs.Judged.{Bounded, Judged, Unbounded}
+use Rattle.plan.specs.declared.verdict.Verdict.TheVariants.{Late}
 use Rattle.plan.proofs.Bounds.{bound-more}
 use Rattle.plan.proofs.judge.find.Goals as goal
 
@@ -7,13 +8,15 @@ pub returns-in-None : goal.returns-in-None
 returns-in-None g c =
     let b = c.args.bank.now in
     let t = c.args.tasks.now in
-    let late : Unbounded (g.S.Source.demanded b) (g.S.Source.parts b) t.limits t.parts.count t.parts.rows c.loop-place.place = c.in-None.ensures in (
+    let late : Unbounded (g.S.Source.demanded b) (g.S.Source.parts b) t.limits t.parts.count t.parts.rows c.loop-place.place = c.in-None.ensures in
+    let found : Judged (g.S.Source.demanded b) (g.S.Source.parts b) t.limits t.parts.count t.parts.rows (Late (c.loop-place.place + 1)) c.loop-place.bounds = (
       omega (arith, c.count.ensures, c.if-count-gt-BANK_PARTS.false),
       omega arith,
       omega (arith, c.count-count.ensures),
       (λ i h. (get_or c.loop-place.bounds i 0, c.loop-place.invariant.1 i (omega arith))),
       λ i e. let same : c.loop-place.place ≡ i = omega arith in subst (Unbounded (g.S.Source.demanded b) (g.S.Source.parts b) t.limits t.parts.count t.parts.rows) same late,
-    )
+    ) in
+    subst (λ v. Judged (g.S.Source.demanded b) (g.S.Source.parts b) t.limits t.parts.count t.parts.rows v c.loop-place.bounds) (sym c.late.ensures) found
 
 pub loop-place-preserved : goal.loop-place-preserved
 loop-place-preserved g c =

@@ -8,6 +8,6 @@ returns g c =
     let d = g.S.Source.demanded c.args.bank.now in
     let l = c.args.ticks in
     let own = c.own_need-own.ensures.value in
-    let above : c.total_of.result ≡ total d (g.S.Source.parts c.args.bank.now) l = c.total_of.ensures.value ∙ ap (λ n. total d n l) c.count-parts.ensures in
-    let earlier : c.total_of-2.result ≡ total (demands_of c.args.tasks.now.parts.count (row_at c.args.tasks.now.parts.rows)) c.args.place l = c.total_of-2.ensures.value ∙ ap (λ p. total (demands_of p.count (row_at p.rows)) c.args.place l) c.parts.ensures in
-    λ i. own i + above i + earlier i
+    let above : c.total_of-by_bank.result ≡ total d (g.S.Source.parts c.args.bank.now) l = c.total_of-by_bank.ensures.value ∙ ap (λ n. total d n l) c.count-parts.ensures in
+    let earlier : c.total_of-by_tasks.result ≡ total (demands_of c.args.tasks.now.parts.count (row_at c.args.tasks.now.parts.rows)) c.args.place l = c.total_of-by_tasks.ensures.value ∙ ap (λ p. total (demands_of p.count (row_at p.rows)) c.args.place l) c.parts.ensures in
+    c.needed_with.ensures ∙ (λ i. own i + above i + earlier i)
