@@ -2,7 +2,16 @@
 #![tactic(auto)]
 
 ghost use Rattle.std.specs.Prelude.{◌*◌, ◌≤◌, ◌≡◌};
-ghost use Rattle.loads.specs.Share.{load_of, RoundedUp};
+ghost use Rattle.loads.specs.Share.{rounded_up, load_of, RoundedUp};
+
+// The one divided by the other and rounded up.
+fn rounded_up(all: u64, ticks: u32) -> u64
+    requires some { 1 ≤ ticks }
+    requires small { all ≤ 10000 * 4294967295 }
+    ensures { result ≡ rounded_up all ticks }
+{
+    (all + u64::from(ticks - 1)) / u64::from(ticks)
+}
 
 // The load of so many units in so many ticks, in ten-thousandths, rounded up; 0 in no ticks.
 pub fn load(units: u32, ticks: u32) -> u64
@@ -12,5 +21,5 @@ pub fn load(units: u32, ticks: u32) -> u64
     if ticks == 0 {
         return 0;
     }
-    (10_000 * u64::from(units) + u64::from(ticks - 1)) / u64::from(ticks)
+    rounded_up(10_000 * u64::from(units), ticks)
 }

@@ -1,6 +1,5 @@
-use Rattle.std.proofs.Common.{refl}
 use Rattle.calls.proofs.Guaranteeing.{guaranteed}
 use Rattle.calls.proofs.rules_hold.Goals as goal
 
-pub returns : goal.returns
-returns c = record { rules = refl; guaranteed = guaranteed }
+pub returns-clause-guaranteed : goal.returns-clause-guaranteed
+returns-clause-guaranteed c = guaranteed

@@ -35,32 +35,29 @@ unbounded-read : (i : ℕ) → suc i ≡ 1 → Unbounded (bank_demand (read-plan
 unbounded-read zero e l h k = each-too-small (needed (bank_demand (read-plan 10)) 2 (read-plan 10).limits 2 (read-plan 10).task_rows 0) 11 refl l h (omega arith)
 unbounded-read (suc i) e l h k = absurd (omega arith)
 
-pub returns : goal.returns
+pub returns-clause-figures : goal.returns-clause-figures
 unfolding digits
-returns c = record {
-  groups = refl;
-  figures = record {
-    early_5 = refl;
-    early_6 = refl;
-    early_12 = refl;
-    early_13 = refl;
-    late_2 = refl;
-    late_3 = refl;
-    jittery_8 = refl;
-    jittery_9 = refl;
-    jittery_18 = refl;
-    jittery_19 = refl;
-    uneven_5 = refl;
-    uneven_10 = refl;
-    uneven_30 = refl;
-    at_start = refl;
-    after_7 = refl;
-    after_8 = refl;
-    sample = (refl, lit≤ tt, lit≤ tt, bounded);
-    too_late = (lit≤ tt, lit≤ tt, lit≤ tt, (λ i h. absurd (omega arith)), λ i e. unbounded i (omega arith));
-    listing = (Accepted 2, 11 ∷ 12 ∷ [], (refl, lit≤ tt, lit≤ tt, bounded-read), refl);
-    refusal = (Late 1, [], (lit≤ tt, lit≤ tt, lit≤ tt, (λ i h. absurd (omega arith)), λ i e. unbounded-read i (omega arith)), refl);
-    load_schedule = refl;
-    load_task = refl;
-  };
+returns-clause-figures c = record {
+  early_5 = refl;
+  early_6 = refl;
+  early_12 = refl;
+  early_13 = refl;
+  late_2 = refl;
+  late_3 = refl;
+  jittery_8 = refl;
+  jittery_9 = refl;
+  jittery_18 = refl;
+  jittery_19 = refl;
+  uneven_5 = refl;
+  uneven_10 = refl;
+  uneven_30 = refl;
+  at_start = refl;
+  after_7 = refl;
+  after_8 = refl;
+  sample = (refl, lit≤ tt, lit≤ tt, bounded);
+  too_late = (lit≤ tt, lit≤ tt, lit≤ tt, (λ i h. absurd (omega arith)), λ i e. unbounded i (omega arith));
+  listing = (Accepted 2, 11 ∷ 12 ∷ [], (refl, lit≤ tt, lit≤ tt, bounded-read), refl);
+  refusal = (Late 1, [], (lit≤ tt, lit≤ tt, lit≤ tt, (λ i h. absurd (omega arith)), λ i e. unbounded-read i (omega arith)), refl);
+  load_schedule = refl;
+  load_task = refl;
 }

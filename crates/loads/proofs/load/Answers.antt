@@ -1,4 +1,4 @@
-use Prim.Native.Nat.{◌+◌, ◌*◌, ◌/◌}
+use Prim.Native.Nat.{◌*◌}
 use mathlib.Core.Path.{◌≡◌, sym, subst}
 use borrow.Author.Rules.{rules}
 use Rattle.loads.specs.Share.{load_of, RoundedUp}
@@ -7,5 +7,5 @@ use Rattle.loads.proofs.load.Goals as goal
 
 pub returns : goal.returns
 returns c =
-    let value : (10000 * c.from.result + c.from-2.result) / c.from-3.result ≡ load_of c.args.units c.args.ticks = search rules in
+    let value : c.rounded_up.result ≡ load_of c.args.units c.args.ticks = search rules in
     record { value = value; rounded = λ some. subst (RoundedUp (10000 * c.args.units) c.args.ticks) (sym value) (rounds-up (10000 * c.args.units) c.args.ticks some) }

@@ -1,7 +1,6 @@
-use Rattle.std.proofs.Common.{◌≡◌, ℕ, zero, suc, ◌+◌, ◌*◌, ◌<◌, ◌≤◌, ◌≢◌, ◌⊎◌, [], ◌∷◌, get_or, refl, inl, inr, arith, lit≤}
+use Rattle.std.proofs.Common.{ℕ, zero, suc, ◌+◌, ◌*◌, ◌<◌, ◌≤◌, ◌≢◌, ◌⊎◌, [], ◌∷◌, get_or, refl, inl, inr, arith, lit≤}
 use Rattle.std.specs.Fmt.{digits}
 use Rattle.arrivals.specs.Times.{Explains, Explained}
-use Rattle.plan.specs.Limits.{limit_at}
 use Rattle.plan.specs.Judged.{Raised}
 use Rattle.figures.specs.Worked.{task_limits}
 use Rattle.figures.proofs.premises.premises_hold.Goals as goal
@@ -23,10 +22,12 @@ explains = record { before = before; within = within; apart = apart }
     before zero h = lit≤ tt
     before (suc zero) h = lit≤ tt
     before (suc (suc i)) h = absurd (omega arith)
+
     within : (i : ℕ) → i < 2 → get_or (2 ∷ 10 ∷ []) i 0 ≤ times i + 2
     within zero h = lit≤ tt
     within (suc zero) h = lit≤ tt
     within (suc (suc i)) h = absurd (omega arith)
+
     apart : (i j : ℕ) → i < 2 → j < 2 → (i ≢ j) → (times i + 10 ≤ times j) ⊎ (times j + 10 ≤ times i)
     apart zero zero a b ne = absurd (ne refl)
     apart zero (suc j) a b ne = inl (lit≤ tt)
@@ -46,23 +47,20 @@ unexplained x =
 least : (m : ℕ) → 50000 ≤ m * 12 → 4167 ≤ m
 least m h = omega (arith, h)
 
-pub returns : goal.returns
+pub returns-clause-cases : goal.returns-clause-cases
 unfolding digits
-returns c = record {
-  promises = refl;
-  cases = record {
-    raised = raised;
-    no_task = inl refl;
-    many_parts = inr (lit≤ tt);
-    explained = (times, explains);
-    unexplained = unexplained;
-    number = (refl, lit≤ tt);
-    line = refl;
-    sayable = (refl, refl);
-    call = refl;
-    small = refl;
-    words = record { some = lit≤ tt; apart = refl; whole = refl };
-    lines = record { some = lit≤ tt; apart = refl; whole = refl };
-    rounded = record { enough = lit≤ tt; least = least };
-  };
+returns-clause-cases c = record {
+  raised = raised;
+  no_task = inl refl;
+  many_parts = inr (lit≤ tt);
+  explained = (times, explains);
+  unexplained = unexplained;
+  number = (refl, lit≤ tt);
+  line = refl;
+  sayable = (refl, refl);
+  call = refl;
+  small = refl;
+  words = record { some = lit≤ tt; apart = refl; whole = refl };
+  lines = record { some = lit≤ tt; apart = refl; whole = refl };
+  rounded = record { enough = lit≤ tt; least = least };
 }
