@@ -1,8 +1,8 @@
 // From bytes to a draft, line after line.
-ghost use Rattle.std.specs.Prelude.{◌≡◌, ◌+◌, ◌<◌, ◌≤◌, length, Ok, Err, MatchResult};
-ghost use Rattle.std.specs.Option.{option_map};
+ghost use Rattle.std.specs.Prelude.{◌≡◌, ◌+◌, ◌<◌, ◌≤◌, length, Some, None, Ok, Err, MatchResult};
+ghost use Rattle.words.specs.Split.{pieces};
 ghost use Rattle.lines.specs.Rows.{read_line, row_told};
-ghost use Rattle.sheet.specs.Reading.{step, read as reading};
+ghost use Rattle.sheet.specs.Reading.{step, read_on, read as reading};
 ghost use Rattle.sheet.specs.Rowing.{next_row};
 ghost use Rattle.sheet.specs.Views.{view};
 
@@ -15,28 +15,59 @@ use words::token::Line;
 // How many bytes a sheet may have.
 pub const LONGEST_SHEET: usize = 16_384;
 
-// What a line makes of what was read before, which is nothing before the first line.
-fn next(draft: Option<Draft>, line: Line) -> Result<Draft, Refusal>
-    ensures { MatchResult result (λ d. next_row (option_map view draft) (row_told (read_line line.entry.bytes.now)) ≡ Ok (view d)) (λ e. next_row (option_map view draft) (row_told (read_line line.entry.bytes.now)) ≡ Err e) }
+// What the first line makes.
+fn first(line: Line) -> Result<Draft, Refusal>
+    ensures { MatchResult result (λ d. next_row None (row_told (read_line line.entry.bytes.now)) ≡ Ok (view d)) (λ e. next_row None (row_told (read_line line.entry.bytes.now)) ≡ Err e) }
 {
     let row = row_of(line)?;
-    match draft {
-        None => Draft::begin(&row),
-        Some(mut draft) => {
-            draft.go_on(&row)?;
-            Ok(draft)
-        }
-    }
+    Draft::begin(&row)
 }
 
 // The same, with the number of the line on a refusal.
-fn step(draft: Option<Draft>, line: Line) -> Result<Draft, Refusal>
-    ensures { MatchResult result (λ d. step line.entry.number (option_map view draft) line.entry.bytes.now ≡ Ok (view d)) (λ e. step line.entry.number (option_map view draft) line.entry.bytes.now ≡ Err e) }
+fn begun(line: Line) -> Result<Draft, Refusal>
+    ensures { MatchResult result (λ d. step line.entry.number None line.entry.bytes.now ≡ Ok (view d)) (λ e. step line.entry.number None line.entry.bytes.now ≡ Err e) }
 {
-    match next(draft, line) {
+    match first(line) {
         Ok(draft) => Ok(draft),
         Err(refusal) => Err(refusal.on_line(line.number)),
     }
+}
+
+// What a later line makes of the draft, in place.
+fn next(draft: &mut Draft, line: Line) -> Result<(), Refusal>
+    ensures { MatchResult result (λ _. next_row (Some (view draft.old)) (row_told (read_line line.entry.bytes.now)) ≡ Ok (view draft.new)) (λ e. next_row (Some (view draft.old)) (row_told (read_line line.entry.bytes.now)) ≡ Err e) }
+{
+    let row = row_of(line)?;
+    draft.go_on(&row)
+}
+
+// The same, with the number of the line on a refusal.
+fn step(draft: &mut Draft, line: Line) -> Result<(), Refusal>
+    ensures { MatchResult result (λ _. step line.entry.number (Some (view draft.old)) line.entry.bytes.now ≡ Ok (view draft.new)) (λ e. step line.entry.number (Some (view draft.old)) line.entry.bytes.now ≡ Err e) }
+{
+    if let Err(refusal) = next(draft, line) {
+        return Err(refusal.on_line(line.number));
+    }
+    Ok(())
+}
+
+// Reads the lines after the first into the draft, up to the first fault, and says how many lines the sheet has.
+fn read_on(draft: &mut Draft, sheet: &[u8]) -> Result<u32, Refusal>
+    requires { length sheet.now ≤ 16384 }
+    ensures { MatchResult result (λ n. read_on 1 (Some (view draft.old)) (pieces 10 sheet.now) ≡ Ok (record { plan = view draft.new; lines = n })) (λ e. read_on 1 (Some (view draft.old)) (pieces 10 sheet.now) ≡ Err e) }
+{
+    let mut lines = 1;
+    let mut rest = sheet;
+    while !rest.is_empty() {
+        let number = lines + 1;
+        let Some((bytes, after)) = first_line(rest) else {
+            return Err(Refusal::new(Fault::ForeignByte, number, 0));
+        };
+        step(draft, Line { bytes, number })?;
+        lines = number;
+        rest = after;
+    }
+    Ok(lines)
 }
 
 // What a sheet says: its draft, and how many lines it has.
@@ -53,20 +84,13 @@ pub(crate) fn read(sheet: &[u8]) -> Result<Finished, Refusal>
     if sheet.len() > LONGEST_SHEET {
         return Err(Refusal::plain(Fault::SheetTooLong));
     }
-    let mut draft: Option<Draft> = None;
-    let mut lines = 0;
-    let mut rest = sheet;
-    while !rest.is_empty() {
-        let number = lines + 1;
-        let Some((bytes, after)) = first_line(rest) else {
-            return Err(Refusal::new(Fault::ForeignByte, number, 0));
-        };
-        draft = Some(step(draft, Line { bytes, number })?);
-        lines = number;
-        rest = after;
+    if sheet.is_empty() {
+        return Err(Refusal::new(Fault::BadLine, 1, 0));
     }
-    match draft {
-        Some(draft) => Ok(Finished { draft, lines }),
-        None => Err(Refusal::new(Fault::BadLine, 1, 0)),
-    }
+    let Some((bytes, rest)) = first_line(sheet) else {
+        return Err(Refusal::new(Fault::ForeignByte, 1, 0));
+    };
+    let mut draft = begun(Line { bytes, number: 1 })?;
+    let lines = read_on(&mut draft, rest)?;
+    Ok(Finished { draft, lines })
 }

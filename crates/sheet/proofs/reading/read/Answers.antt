@@ -1,62 +1,52 @@
-use Rattle.std.proofs.Common.{◌+◌, ◌≤◌, length, Some, Err, sym, ap, ◌∙◌, arith}
+use Rattle.std.proofs.Common.{◌≤◌, length, Some, None, Err, sym, ap, ◌∙◌, arith}
 use Rattle.std.proofs.lemmas.Result.{err_from_is_err_and}
-use Rattle.std.proofs.lemmas.Bool.{eqb-true, eqb-false}
-use Rattle.std.specs.Option.{option_map}
+use Rattle.std.proofs.lemmas.Bool.{eqb-false}
 use Rattle.words.specs.Split.{pieces}
-use Rattle.sheet.specs.Reading.{ended, and_then, read_on}
-use Rattle.sheet.specs.Views.{view}
-use Rattle.sheet.proofs.Lining.{short-enough, line_first, line-open, at-end}
+use Rattle.sheet.specs.Reading.{and_then, read_on}
+use Rattle.sheet.proofs.Lining.{short-enough, line_first, line-open}
 use Rattle.sheet.proofs.reading.read.Goals as goal
 
 pub returns-in_default : goal.returns-in_default
 returns-in_default c =
-    let rest = c.loop-rest.rest.now in
-    let so_far = option_map view c.loop-rest.draft in
-    let more : 1 ≤ length rest = omega (arith, eqb-false (length rest) 0 (sym c.loop-rest-test.ensures)) in
-    short-enough c.args.sheet.now c.if-sheet-gt-LONGEST_SHEET.false
-    ∙ sym c.loop-rest.invariant.1
-    ∙ line-open c.loop-rest.lines so_far rest more c.in_default.ensures
-    ∙ (λ i. Err (record { fault = sym c.new.ensures.fault i; line = sym c.new.ensures.line i; task = sym c.new.ensures.task i }))
+    let sheet = c.args.sheet.now in
+    let more : 1 ≤ length sheet = omega (arith, eqb-false (length sheet) 0 (sym c.if-is_empty.ensures)) in
+    short-enough sheet c.if-sheet-gt-LONGEST_SHEET.false
+    ∙ line-open 0 None sheet more c.in_default.ensures
+    ∙ (λ i. Err (record { fault = sym c.new-in_default.ensures.fault i; line = sym c.new-in_default.ensures.line i; task = sym c.new-in_default.ensures.task i }))
 
-pub returns-in_err-step : goal.returns-in_err-step
-returns-in_err-step c =
-    let rest = c.loop-rest.rest.now in
-    let after = c.in-Some.after.now in
-    let so_far = option_map view c.loop-rest.draft in
+pub returns-in_err-draft : goal.returns-in_err-draft
+returns-in_err-draft c =
+    let sheet = c.args.sheet.now in
+    let rest = c.in-Some.rest.now in
     let line = c.in-Some.ensures in
     let p = err_from_is_err_and c.from_residual.result c.from_residual.ensures.1 in
     rw (p.1, p.2)
     (
-    short-enough c.args.sheet.now c.if-sheet-gt-LONGEST_SHEET.false
-    ∙ sym c.loop-rest.invariant.1
-    ∙ line_first c.loop-rest.lines so_far rest c.in-Some.bytes.now after line.0 line.1
-    ∙ ap (λ r. and_then r (λ q. read_on (c.loop-rest.lines + 1) (Some q) (pieces 10 after))) c.in_err-step.ensures
+    short-enough sheet c.if-sheet-gt-LONGEST_SHEET.false
+    ∙ line_first 0 None sheet c.in-Some.bytes.now rest line.0 line.1
+    ∙ ap (λ r. and_then r (λ q. read_on 1 (Some q) (pieces 10 rest))) c.in_err-draft.ensures
     )
 
-pub returns-in-Some-draft : goal.returns-in-Some-draft
-returns-in-Some-draft c =
-    let rest = c.loop-rest.rest.now in
-    short-enough c.args.sheet.now c.if-sheet-gt-LONGEST_SHEET.false
-    ∙ sym c.loop-rest.invariant.1
-    ∙ at-end c.loop-rest.lines (option_map view c.loop-rest.draft) rest (eqb-true (length rest) 0 (sym c.loop-rest-test.ensures))
-    ∙ ap (λ d. ended c.loop-rest.lines (option_map view d)) c.in-Some-draft.is
-
-pub returns-in-None : goal.returns-in-None
-returns-in-None c =
-    let rest = c.loop-rest.rest.now in
-    short-enough c.args.sheet.now c.if-sheet-gt-LONGEST_SHEET.false
-    ∙ sym c.loop-rest.invariant.1
-    ∙ at-end c.loop-rest.lines (option_map view c.loop-rest.draft) rest (eqb-true (length rest) 0 (sym c.loop-rest-test.ensures))
-    ∙ ap (λ d. ended c.loop-rest.lines (option_map view d)) c.in-None.is
-    ∙ (λ i. Err (record { fault = sym c.new-in-None.ensures.fault i; line = sym c.new-in-None.ensures.line i; task = sym c.new-in-None.ensures.task i }))
-
-pub loop-rest-preserved : goal.loop-rest-preserved
-loop-rest-preserved c =
-    let rest = c.loop-rest.rest.now in
-    let after = c.in-Some.after.now in
-    let line = c.in-Some.ensures in (
-      omega (arith, line.2, c.loop-rest.invariant.0),
-      sym (ap (λ r. and_then r (λ q. read_on (c.loop-rest.lines + 1) (Some q) (pieces 10 after))) c.in_ok-step.ensures)
-          ∙ sym (line_first c.loop-rest.lines (option_map view c.loop-rest.draft) rest c.in-Some.bytes.now after line.0 line.1)
-          ∙ c.loop-rest.invariant.1,
+pub returns-in_err-lines : goal.returns-in_err-lines
+returns-in_err-lines c =
+    let sheet = c.args.sheet.now in
+    let rest = c.in-Some.rest.now in
+    let line = c.in-Some.ensures in
+    let p = err_from_is_err_and c.from_residual-in_err-lines.result c.from_residual-in_err-lines.ensures.1 in
+    rw (p.1, p.2)
+    (
+    short-enough sheet c.if-sheet-gt-LONGEST_SHEET.false
+    ∙ line_first 0 None sheet c.in-Some.bytes.now rest line.0 line.1
+    ∙ ap (λ r. and_then r (λ q. read_on 1 (Some q) (pieces 10 rest))) c.in_ok-draft.ensures
+    ∙ c.in_err-lines.ensures
     )
+
+pub returns : goal.returns
+returns c =
+    let sheet = c.args.sheet.now in
+    let rest = c.in-Some.rest.now in
+    let line = c.in-Some.ensures in
+    short-enough sheet c.if-sheet-gt-LONGEST_SHEET.false
+    ∙ line_first 0 None sheet c.in-Some.bytes.now rest line.0 line.1
+    ∙ ap (λ r. and_then r (λ q. read_on 1 (Some q) (pieces 10 rest))) c.in_ok-draft.ensures
+    ∙ c.in_ok-lines.ensures

@@ -1,15 +1,14 @@
-use Rattle.std.proofs.Common.{Err, sym, ap, ◌∙◌}
-use Rattle.std.specs.Option.{option_map}
+use Rattle.std.proofs.Common.{Some, Err, sym, ap, ◌∙◌}
 use Rattle.lines.specs.Rows.{read_line}
 use Rattle.sheet.specs.Reading.{at_line}
 use Rattle.sheet.specs.Views.{view}
 use Rattle.sheet.proofs.Keeping.{same_next}
 use Rattle.sheet.proofs.reading.step.Goals as goal
 
-pub returns-in-Ok : goal.returns-in-Ok
-returns-in-Ok c = ap (at_line c.args.line.number) (sym (same_next (option_map view c.args.draft) (read_line c.args.line.bytes.now)) ∙ c.in-Ok.ensures)
-
 pub returns-in-Err : goal.returns-in-Err
 returns-in-Err c =
-    ap (at_line c.args.line.number) (sym (same_next (option_map view c.args.draft) (read_line c.args.line.bytes.now)) ∙ c.in-Err.ensures)
+    ap (at_line c.args.line.number) (sym (same_next (Some (view c.args.draft.now)) (read_line c.args.line.bytes.now)) ∙ c.in-Err.ensures)
     ∙ (λ i. Err (record { fault = sym c.on_line.ensures.fault i; line = sym c.on_line.ensures.line i; task = sym c.on_line.ensures.task i }))
+
+pub returns : goal.returns
+returns c = ap (at_line c.args.line.number) (sym (same_next (Some (view c.args.draft.now)) (read_line c.args.line.bytes.now)) ∙ c.in_default.ensures)
