@@ -24,6 +24,7 @@ fn first(line: Line) -> Result<Draft, Refusal>
 }
 
 // The same, with the number of the line on a refusal.
+#[tactic(auto, using(crate::proofs::Keeping::same_next))]
 fn begun(line: Line) -> Result<Draft, Refusal>
     ensures { MatchResult result (λ d. step line.entry.number None line.entry.bytes.now ≡ Ok (view d)) (λ e. step line.entry.number None line.entry.bytes.now ≡ Err e) }
 {
@@ -42,6 +43,7 @@ fn next(draft: &mut Draft, line: Line) -> Result<(), Refusal>
 }
 
 // The same, with the number of the line on a refusal.
+#[tactic(auto, using(crate::proofs::Keeping::same_next))]
 fn step(draft: &mut Draft, line: Line) -> Result<(), Refusal>
     ensures { MatchResult result (λ _. step line.entry.number (Some (view draft.old)) line.entry.bytes.now ≡ Ok (view draft.new)) (λ e. step line.entry.number (Some (view draft.old)) line.entry.bytes.now ≡ Err e) }
 {
