@@ -1,5 +1,5 @@
 // What a listing tells.
-ghost use Rattle.std.specs.Prelude.{◌≡◌, ◌+◌, ◌<◌, ◌≤◌, true, false, length, nat_lt, slice_index_or, slice_set};
+ghost use Rattle.std.specs.Prelude.{◌≡◌, ◌+◌, ◌<◌, ◌≤◌, true, false, length, replicate, nat_lt, slice_index_or, slice_set};
 ghost use Rattle.listing.specs.Texts.{unmarked};
 
 use refusal::Refusal;
@@ -33,8 +33,10 @@ pub struct Marks {
 impl Marks {
     // No part and no task.
     pub fn new() -> Marks
-        ensures parts { result.part_count ≡ 0 }
-        ensures tasks { result.task_count ≡ 0 }
+        ensures part_count { result.part_count ≡ 0 }
+        ensures parts { result.parts ≡ replicate 9 0 }
+        ensures task_count { result.task_count ≡ 0 }
+        ensures tasks { result.tasks ≡ replicate 16 unmarked }
     {
         let unmarked = TaskMark {
             bound: 0,
