@@ -1,3 +1,4 @@
+pub mod Begun
 pub mod Ruling
 pub mod Values
 pub mod Written

@@ -1,12 +1,12 @@
 -- Where a number more would be too many, something is given only if the rest of the line is empty.
-use Rattle.std.proofs.Common.{◌≡◌, ℕ, Bool, true, false, cond, eqb, List, [], ◌∷◌, length, Some, None, Option, sym, refl, ◌∙◌}
+use Rattle.std.proofs.Common.{◌≡◌, ℕ, Bool, true, false, cond, eqb, List, ◌∷◌, ◌++◌, length, Some, None, Option, refl, ◌∙◌}
 use Rattle.std.specs.Bool.{then_some}
 use Rattle.lines.specs.Numbers.{numbers_after}
-use Rattle.lines.proofs.Values.{number-end}
+use Rattle.lines.proofs.Begun.{Begun, ended}
 
-pub given-at-end : {T : Type 0} (F : Option (List ℕ) → Option T) (rest : List ℕ) (x : T) → F None ≡ None → F (Some []) ≡ Some x → ((n : ℕ) (ns : List ℕ) → F (Some (n ∷ ns)) ≡ None) → then_some (eqb (length rest) 0) x ≡ F (numbers_after rest)
-given-at-end F rest x none given some = either (eqb (length rest) 0) ∙ sym (number-end F rest None none some)
-  where
-    either : (b : Bool) → then_some b x ≡ cond b (F (Some [])) None
-    either true = sym given
-    either false = refl
+then_some-cond : {T : Type 0} (b : Bool) (x : T) → then_some b x ≡ cond b (Some x) None
+then_some-cond true x = refl
+then_some-cond false x = refl
+
+pub given-at-end : {T : Type 0} (F : Option (List ℕ) → Option T) (none : F None ≡ None) {all ns rest : List ℕ} (x : T) → Begun all ns rest → F (Some ns) ≡ Some x → ((n : ℕ) (ms : List ℕ) → F (Some (ns ++ n ∷ ms)) ≡ None) → then_some (eqb (length rest) 0) x ≡ F (numbers_after all)
+given-at-end F none {rest = rest} x b given more = then_some-cond (eqb (length rest) 0) x ∙ ended F none x b given more

@@ -1,14 +1,16 @@
 use Rattle.std.proofs.Common.{◌≡◌, ◌+◌, ◌≤◌, cond, ltb, [], ◌∷◌, ◌++◌, length, set, sym, ap, ◌∙◌, arith}
 use Rattle.std.proofs.lemmas.Bool.{eqb-false}
 use Rattle.lines.specs.Rows.{costs_of, costs_said}
-use Rattle.lines.proofs.Values.{costs-on, costs-missing, behind-short, pushed-is}
+use Rattle.lines.proofs.Begun.{Begun, ◌▸◌, none-at}
+use Rattle.lines.proofs.Values.{behind-short, pushed-is}
 use Rattle.lines.proofs.reading.costs_of.Goals as goal
 
 pub returns-in_err-cost : goal.returns-in_err-cost
 returns-in_err-cost c =
     let rest = c.loop-rest.rest.now in
     let more : 1 ≤ length rest = omega (arith, eqb-false (length rest) 0 (sym c.loop-rest-test.ensures)) in
-    c.from_residual.ensures ∙ sym (ap costs_said (costs-missing c.args.rest.now rest c.loop-rest.invariant.0 c.loop-rest.invariant.2 more c.in_err-cost.ensures))
+    let begun : Begun c.args.rest.now c.loop-rest.invariant.0 rest = record { joined = c.loop-rest.invariant.2 } in
+    c.from_residual.ensures ∙ sym (ap costs_said (none-at begun more c.in_err-cost.ensures))
 
 pub loop-rest-smaller : goal.loop-rest-smaller
 loop-rest-smaller c =
@@ -21,4 +23,5 @@ loop-rest-preserved c =
     let ns = c.loop-rest.invariant.0 in
     let n = c.in_ok-cost.cost in
     let grown : c.pushed-costs.result ≡ costs_of (ns ++ n ∷ []) = c.pushed-costs.ensures ∙ ap (λ k. cond (ltb k.count 9) (record { numbers = set k.numbers k.count n; count = k.count + 1 }) k) c.loop-rest.invariant.1 ∙ pushed-is ns n in
-    (ns ++ n ∷ [], grown, costs-on c.args.rest.now c.loop-rest.rest.now c.in_ok-cost.after.now ns n c.loop-rest.invariant.2 c.in_ok-cost.ensures.0 c.in_ok-cost.ensures.1)
+    let begun : Begun c.args.rest.now ns c.loop-rest.rest.now = record { joined = c.loop-rest.invariant.2 } in
+    (ns ++ n ∷ [], grown, (begun ▸ c.in_ok-cost.ensures).joined)

@@ -1,7 +1,7 @@
 use Rattle.std.proofs.Common.{◌≡◌, ℕ, List, length}
 use Rattle.lines.specs.Numbers.{numbers_after}
 use Rattle.lines.specs.Rows.{costs_of}
-use Rattle.lines.proofs.Values.{joined_to}
+use Rattle.lines.proofs.Begun.{joined_to}
 use Rattle.lines.proofs.reading.costs_of.Given as goal
 
 -- the costs so far, before those on what is left

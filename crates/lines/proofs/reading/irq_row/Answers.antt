@@ -1,35 +1,17 @@
-use Rattle.std.proofs.Common.{ℕ, List, Some, None, Option, sym, refl, ◌∙◌}
-use Rattle.lines.specs.Numbers.{followed_by, numbers_after}
-use Rattle.lines.specs.Rows.{said, row_said}
+use Rattle.std.proofs.Common.{sym, refl, ◌∙◌}
 use Rattle.lines.specs.declared.row.Kind.TheVariants.{Irq}
-use Rattle.lines.specs.declared.row.Row.{Row}
 use Rattle.lines.specs.declared.row.Row.TheVariants as rows
-use Rattle.lines.proofs.Values.{number-on, number-missing, no-costs, with-costs}
+use Rattle.lines.proofs.Begun.{begin, ◌▸◌, missing, no-costs, with-costs, row_by}
 use Rattle.lines.proofs.reading.irq_row.Goals as goal
 
--- what the numbers on the rest of the line come to
-abbrev row : Option (List ℕ) → Option Row
-row o = row_said (said (Some Irq) o)
-
 pub returns-in_err-period : goal.returns-in_err-period
-returns-in_err-period c =
-    c.from_residual.ensures
-    ∙ sym (number-missing row c.args.rest.now None refl refl c.in_err-period.ensures)
+returns-in_err-period c = c.from_residual.ensures ∙ sym (missing (row_by Irq) refl (begin c.args.rest.now) refl c.in_err-period.ensures)
 
 pub returns-in_err-jitter : goal.returns-in_err-jitter
-returns-in_err-jitter c =
-    c.from_residual-in_err-jitter.ensures
-    ∙ sym (number-on row c.args.rest.now c.in_ok-period.rest.now c.in_ok-period.period c.in_ok-period.ensures.0 c.in_ok-period.ensures.1
-    ∙ number-missing (λ o. row (followed_by (Some c.in_ok-period.period) o)) c.in_ok-period.rest.now None refl refl c.in_err-jitter.ensures)
+returns-in_err-jitter c = c.from_residual-in_err-jitter.ensures ∙ sym (missing (row_by Irq) refl (begin c.args.rest.now ▸ c.in_ok-period.ensures) refl c.in_err-jitter.ensures)
 
 pub returns-in_err-costs : goal.returns-in_err-costs
-returns-in_err-costs c =
-    c.from_residual-in_err-costs.ensures
-    ∙ sym (number-on row c.args.rest.now c.in_ok-period.rest.now c.in_ok-period.period c.in_ok-period.ensures.0 c.in_ok-period.ensures.1
-    ∙ number-on (λ o. row (followed_by (Some c.in_ok-period.period) o)) c.in_ok-period.rest.now c.in_ok-jitter.after.now c.in_ok-jitter.jitter c.in_ok-jitter.ensures.0 c.in_ok-jitter.ensures.1
-    ∙ no-costs (λ o. row (followed_by (Some c.in_ok-period.period) (followed_by (Some c.in_ok-jitter.jitter) o))) refl refl (numbers_after c.in_ok-jitter.after.now) c.in_err-costs.ensures)
+returns-in_err-costs c = c.from_residual-in_err-costs.ensures ∙ sym (no-costs Irq (begin c.args.rest.now ▸ c.in_ok-period.ensures ▸ c.in_ok-jitter.ensures) refl c.in_err-costs.ensures)
 
 pub returns : goal.returns
-returns c = sym (number-on row c.args.rest.now c.in_ok-period.rest.now c.in_ok-period.period c.in_ok-period.ensures.0 c.in_ok-period.ensures.1
-    ∙ number-on (λ o. row (followed_by (Some c.in_ok-period.period) o)) c.in_ok-period.rest.now c.in_ok-jitter.after.now c.in_ok-jitter.jitter c.in_ok-jitter.ensures.0 c.in_ok-jitter.ensures.1
-    ∙ with-costs (λ o. row (followed_by (Some c.in_ok-period.period) (followed_by (Some c.in_ok-jitter.jitter) o))) (rows.Irq c.in_ok-period.period c.in_ok-jitter.jitter) (λ n ns. refl) (numbers_after c.in_ok-jitter.after.now) c.in_ok-costs.costs c.in_ok-costs.ensures)
+returns c = with-costs Irq (rows.Irq c.in_ok-period.period c.in_ok-jitter.jitter) (begin c.args.rest.now ▸ c.in_ok-period.ensures ▸ c.in_ok-jitter.ensures) (λ n ns. refl) c.in_ok-costs.costs c.in_ok-costs.ensures
