@@ -1,6 +1,7 @@
 -- How far a line is read: some numbers stand at its head, and what is left follows them.
 use Rattle.std.proofs.Common.{◌≡◌, ℕ, ◌≤◌, cond, eqb, List, [], ◌∷◌, ◌++◌, length, Some, None, Option, sym, refl, ap, ◌∙◌, append-nil, append_assoc, arith}
 use Rattle.std.proofs.lemmas.Bool.{ne_eqb, cond-false}
+use Rattle.std.proofs.lemmas.Option.{none-some, same_Some}
 use Rattle.words.specs.Numbers.{value_of}
 use Rattle.words.specs.Split.{before, onward}
 use Rattle.words.proofs.Cutting.{pieces-first}
@@ -32,7 +33,7 @@ begin all = record { joined = joined-none (numbers_after all) }
 
 -- the number that comes next is the first of those that follow
 first-on : (rest more : List ℕ) (n : ℕ) → front rest ≡ Some n → more ≡ behind rest → numbers_after rest ≡ followed_by (Some n) (numbers_after more)
-first-on [] more n e m = let z : ◌≡◌ {A = ℕ} 0 1 = cc in absurd (omega arith)
+first-on [] more n e m = absurd (none-some n e)
 first-on (x ∷ xs) more n e m = ap numbers_of (pieces-first 32 xs) ∙ (λ i. followed_by (e i) (numbers_after (sym m i)))
 
 -- it is read, and stands at the head from then on
@@ -83,13 +84,13 @@ no-costs {all} {ns} {rest} k b few e = ap (row_by k) b.joined ∙ either (number
     either : (o : Option (List ℕ)) → None ≡ costs_said o → row_by k (joined_to ns o) ≡ None
     either None e = refl
     either (Some []) e = ap (λ ms. row_by k (Some ms)) (append-nil ns) ∙ few
-    either (Some (c ∷ cs)) e = let z : ◌≡◌ {A = ℕ} 0 1 = cc in absurd (omega arith)
+    either (Some (c ∷ cs)) e = absurd (none-some (costs_of (c ∷ cs)) e)
 
 -- the row of ns and the costs that follow
 pub with-costs : {all ns rest : List ℕ} (k : Kind) (make : Costs → Row) → Begun all ns rest → ((c : ℕ) (cs : List ℕ) → row_by k (Some (ns ++ c ∷ cs)) ≡ Some (make (costs_of (c ∷ cs)))) → (costs : Costs) → Some costs ≡ costs_said (numbers_after rest) → Some (make costs) ≡ row_by k (numbers_after all)
 with-costs {all} {ns} {rest} k make b made costs e = sym (ap (row_by k) b.joined ∙ either (numbers_after rest) e)
   where
     either : (o : Option (List ℕ)) → Some costs ≡ costs_said o → row_by k (joined_to ns o) ≡ Some (make costs)
-    either None e = let z : ◌≡◌ {A = ℕ} 0 1 = cc in absurd (omega arith)
-    either (Some []) e = let z : ◌≡◌ {A = ℕ} 0 1 = cc in absurd (omega arith)
-    either (Some (c ∷ cs)) e = let same : costs_of (c ∷ cs) ≡ costs = cc in made c cs ∙ ap (λ x. Some (make x)) same
+    either None e = absurd (none-some costs (sym e))
+    either (Some []) e = absurd (none-some costs (sym e))
+    either (Some (c ∷ cs)) e = made c cs ∙ ap (λ x. Some (make x)) (same_Some (costs_of (c ∷ cs)) costs (sym e))

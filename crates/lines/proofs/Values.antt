@@ -1,7 +1,7 @@
 -- The numbers of a line, one after another.
 use Rattle.std.proofs.Common.{◌≡◌, ℕ, suc, ◌+◌, ◌-◌, ◌<◌, ◌≤◌, min, true, false, cond, eqb, ltb, List, [], ◌∷◌, ◌++◌, length, take, drop, set, replicate, sym, refl, ap, ◌∙◌, inl, inr, append_assoc, arith}
 use Rattle.std.proofs.lemmas.List.{take_rest, take_all, take-append-le, set_at, length_push}
-use Rattle.std.proofs.lemmas.Bool.{cases_lt, lt-ltb, le-ltb}
+use Rattle.std.proofs.lemmas.Bool.{eqb-false, cases_lt, lt-ltb, le-ltb}
 use Rattle.words.specs.Numbers.{value_of}
 use Rattle.words.specs.Split.{before, onward}
 use Rattle.lines.specs.Rows.{costs_of}
@@ -16,10 +16,13 @@ pub behind-of : (rest : List ℕ) → 1 ≤ length rest → behind rest ≡ onwa
 behind-of [] h = absurd (omega arith)
 behind-of (x ∷ xs) h = sym (ap (onward 32) (take_rest (x ∷ xs) 1))
 
--- what follows is shorter
+-- what follows a word is shorter
 onward-short : (s : ℕ) (xs : List ℕ) → length (onward s xs) ≤ length xs
 onward-short s [] = omega arith
 onward-short s (x ∷ xs) = elim (eqb x s) as (λ b. length (cond b (x ∷ xs) (onward s xs)) ≤ suc (length xs)) [ true ↦ omega arith | false ↦ omega (arith, onward-short s xs) ]
+
+pub some-left : (rest : List ℕ) → false ≡ eqb (length rest) 0 → 1 ≤ length rest
+some-left rest e = omega (arith, eqb-false (length rest) 0 (sym e))
 
 pub behind-short : (rest : List ℕ) → 1 ≤ length rest → length (behind rest) < length rest
 behind-short [] h = absurd (omega arith)

@@ -1,28 +1,23 @@
 -- A line is a call just if it is what that call writes.
-use Rattle.std.proofs.Common.{◌≡◌, ℕ, Bool, true, false, cond, List, [], ◌∷◌, map, Some, None, decimal, Option, sym, refl, ap, ◌∙◌, subst, arith}
-use Rattle.words.specs.Split.{pieces, joined, lacks}
-use Rattle.words.proofs.Cutting.{only-cut}
-use Rattle.lines.specs.Numbers.{numbers_of}
-use Rattle.lines.specs.Rows.{same, all_small}
-use Rattle.lines.proofs.Written.{same-is, numbers-told, numbers-back, pieces-words}
+use Rattle.std.proofs.Common.{◌≡◌, ℕ, true, List, [], ◌∷◌, Some, None, Option, sym, refl, ap, ◌∙◌}
+use Rattle.std.proofs.lemmas.Option.{none-some, MatchOption-at_some}
+use Rattle.std.specs.Bool.{⊤}
+use Rattle.std.specs.Option.{IfSome}
+use Rattle.words.specs.Split.{before, onward, lacks}
+use Rattle.words.proofs.Cutting.{pieces-first}
+use Rattle.lines.specs.Numbers.{numbers_after}
+use Rattle.lines.proofs.Wording.{spelled, numbers-back, pieces-words, line-told}
 use Rattle.calls.specs.declared.Call.{Call}
 use Rattle.calls.specs.declared.Call.TheVariants as calls
-use Rattle.transcript.specs.Calls.{spelling, verb_of, verb, numbers, written, Small, call_with, call_by, read_call, CallRule}
+use Rattle.transcript.specs.Calls.{spelling, verb_of, verb, numbers, written, Small, one, two, with_one, with_two, call_with, call_by, read_call, CallRule}
 use Rattle.transcript.specs.declared.reading.Verb.{Verb}
 use Rattle.transcript.specs.declared.reading.Verb.TheVariants.{Offer, Release, Hold, LetGo, End, Tick}
 
 -- a word that is a keyword is its spelling
-verb-by : (w : List ℕ) (v : Verb) (p q r s t u : Bool) → same w (spelling Offer) ≡ p → same w (spelling Release) ≡ q → same w (spelling Hold) ≡ r → same w (spelling LetGo) ≡ s → same w (spelling End) ≡ t → same w (spelling Tick) ≡ u → cond p (Some Offer) (cond q (Some Release) (cond r (Some Hold) (cond s (Some LetGo) (cond t (Some End) (cond u (Some Tick) None))))) ≡ Some v → w ≡ spelling v
-verb-by w v true q r s t u hp hq hr hs ht hu e = let is : Offer ≡ v = cc in same-is w (spelling Offer) hp ∙ ap spelling is
-verb-by w v false true r s t u hp hq hr hs ht hu e = let is : Release ≡ v = cc in same-is w (spelling Release) hq ∙ ap spelling is
-verb-by w v false false true s t u hp hq hr hs ht hu e = let is : Hold ≡ v = cc in same-is w (spelling Hold) hr ∙ ap spelling is
-verb-by w v false false false true t u hp hq hr hs ht hu e = let is : LetGo ≡ v = cc in same-is w (spelling LetGo) hs ∙ ap spelling is
-verb-by w v false false false false true u hp hq hr hs ht hu e = let is : End ≡ v = cc in same-is w (spelling End) ht ∙ ap spelling is
-verb-by w v false false false false false true hp hq hr hs ht hu e = let is : Tick ≡ v = cc in same-is w (spelling Tick) hu ∙ ap spelling is
-verb-by w v false false false false false false hp hq hr hs ht hu e = let z : ◌≡◌ {A = ℕ} 0 1 = cc in absurd (omega arith)
-
 verb-told : (w : List ℕ) (v : Verb) → verb_of w ≡ Some v → w ≡ spelling v
-verb-told w v e = verb-by w v (same w (spelling Offer)) (same w (spelling Release)) (same w (spelling Hold)) (same w (spelling LetGo)) (same w (spelling End)) (same w (spelling Tick)) refl refl refl refl refl refl e
+verb-told w v e =
+    let by = spelled spelling w in
+    by Offer _ v (by Release _ v (by Hold _ v (by LetGo _ v (by End _ v (by Tick None v (λ none. absurd (none-some v none))))))) e
 
 verb-back : (v : Verb) → verb_of (spelling v) ≡ Some v
 verb-back Offer = refl
@@ -32,33 +27,35 @@ verb-back LetGo = refl
 verb-back End = refl
 verb-back Tick = refl
 
--- the call of a keyword and numbers has just these
-record Parts (v : Verb) (ns : List ℕ) (c : Call) : Type 0 where
-  verb-is : verb c ≡ v
-  numbers-are : numbers c ≡ ns
+-- a call has its own keyword and numbers
+abbrev Own : Option Verb → Option (List ℕ) → Call → Type 0
+Own o os c = (o ≡ Some (verb c)) × (os ≡ Some (numbers c))
 
-parts-of : (v : Verb) (ns : List ℕ) (c : Call) → call_with (Some v) (Some ns) ≡ Some c → Parts v ns c
-parts-of Offer [] c e = let z : ◌≡◌ {A = ℕ} 0 1 = cc in absurd (omega arith)
-parts-of Offer (k ∷ []) c e = let z : ◌≡◌ {A = ℕ} 0 1 = cc in absurd (omega arith)
-parts-of Offer (k ∷ u ∷ []) c e = let is : calls.Offer k u ≡ c = cc in subst (Parts Offer (k ∷ u ∷ [])) is (record { verb-is = refl; numbers-are = refl })
-parts-of Offer (k ∷ u ∷ n ∷ ns) c e = let z : ◌≡◌ {A = ℕ} 0 1 = cc in absurd (omega arith)
-parts-of Release [] c e = let z : ◌≡◌ {A = ℕ} 0 1 = cc in absurd (omega arith)
-parts-of Release (i ∷ []) c e = let z : ◌≡◌ {A = ℕ} 0 1 = cc in absurd (omega arith)
-parts-of Release (i ∷ u ∷ []) c e = let is : calls.Release i u ≡ c = cc in subst (Parts Release (i ∷ u ∷ [])) is (record { verb-is = refl; numbers-are = refl })
-parts-of Release (i ∷ u ∷ n ∷ ns) c e = let z : ◌≡◌ {A = ℕ} 0 1 = cc in absurd (omega arith)
-parts-of Hold [] c e = let z : ◌≡◌ {A = ℕ} 0 1 = cc in absurd (omega arith)
-parts-of Hold (i ∷ []) c e = let z : ◌≡◌ {A = ℕ} 0 1 = cc in absurd (omega arith)
-parts-of Hold (i ∷ u ∷ []) c e = let is : calls.Hold i u ≡ c = cc in subst (Parts Hold (i ∷ u ∷ [])) is (record { verb-is = refl; numbers-are = refl })
-parts-of Hold (i ∷ u ∷ n ∷ ns) c e = let z : ◌≡◌ {A = ℕ} 0 1 = cc in absurd (omega arith)
-parts-of LetGo [] c e = let z : ◌≡◌ {A = ℕ} 0 1 = cc in absurd (omega arith)
-parts-of LetGo (i ∷ []) c e = let is : calls.LetGo i ≡ c = cc in subst (Parts LetGo (i ∷ [])) is (record { verb-is = refl; numbers-are = refl })
-parts-of LetGo (i ∷ n ∷ ns) c e = let z : ◌≡◌ {A = ℕ} 0 1 = cc in absurd (omega arith)
-parts-of End [] c e = let z : ◌≡◌ {A = ℕ} 0 1 = cc in absurd (omega arith)
-parts-of End (i ∷ []) c e = let is : calls.End i ≡ c = cc in subst (Parts End (i ∷ [])) is (record { verb-is = refl; numbers-are = refl })
-parts-of End (i ∷ n ∷ ns) c e = let z : ◌≡◌ {A = ℕ} 0 1 = cc in absurd (omega arith)
-parts-of Tick [] c e = let is : calls.Tick ≡ c = cc in subst (Parts Tick []) is (record { verb-is = refl; numbers-are = refl })
-parts-of Tick (n ∷ ns) c e = let z : ◌≡◌ {A = ℕ} 0 1 = cc in absurd (omega arith)
+own-one : (v : Verb) (call : ℕ → Call) → ((n : ℕ) → Own (Some v) (Some (n ∷ [])) (call n)) → (ns : Option (List ℕ)) → IfSome (with_one call (one ns)) (Own (Some v) ns)
+own-one v call is None = tt
+own-one v call is (Some []) = tt
+own-one v call is (Some (n ∷ [])) = is n
+own-one v call is (Some (n ∷ m ∷ ns)) = tt
 
+own-two : (v : Verb) (call : ℕ → ℕ → Call) → ((n m : ℕ) → Own (Some v) (Some (n ∷ m ∷ [])) (call n m)) → (ns : Option (List ℕ)) → IfSome (with_two call (two ns)) (Own (Some v) ns)
+own-two v call is None = tt
+own-two v call is (Some []) = tt
+own-two v call is (Some (n ∷ [])) = tt
+own-two v call is (Some (n ∷ m ∷ [])) = is n m
+own-two v call is (Some (n ∷ m ∷ k ∷ ns)) = tt
+
+own : (o : Option Verb) (os : Option (List ℕ)) → IfSome (call_with o os) (Own o os)
+own None os = tt
+own (Some Offer) os = own-two Offer calls.Offer (λ k u. (refl, refl)) os
+own (Some Release) os = own-two Release calls.Release (λ i u. (refl, refl)) os
+own (Some Hold) os = own-two Hold calls.Hold (λ i u. (refl, refl)) os
+own (Some LetGo) os = own-one LetGo calls.LetGo (λ i. (refl, refl)) os
+own (Some End) os = own-one End calls.End (λ i. (refl, refl)) os
+own (Some Tick) None = tt
+own (Some Tick) (Some []) = (refl, refl)
+own (Some Tick) (Some (n ∷ ns)) = tt
+
+-- and these make it
 with-back : (c : Call) → call_with (Some (verb c)) (Some (numbers c)) ≡ Some c
 with-back (calls.Offer part units) = refl
 with-back (calls.Release task units) = refl
@@ -66,38 +63,6 @@ with-back (calls.Hold task units) = refl
 with-back (calls.LetGo task) = refl
 with-back (calls.End task) = refl
 with-back calls.Tick = refl
-
--- without numbers there is no call
-no-numbers : (v : Verb) → call_with (Some v) None ≡ None
-no-numbers Offer = refl
-no-numbers Release = refl
-no-numbers Hold = refl
-no-numbers LetGo = refl
-no-numbers End = refl
-no-numbers Tick = refl
-
--- the words of the line of c
-abbrev words-for : Call → List (List ℕ)
-words-for c = spelling (verb c) ∷ map decimal (numbers c)
-
-call-on : (w : List ℕ) (ws : List (List ℕ)) (c : Call) (o : Option Verb) (os : Option (List ℕ)) → verb_of w ≡ o → numbers_of ws ≡ os → call_with o os ≡ Some c → (w ∷ ws ≡ words-for c) × Small c
-call-on w ws c None os v n e = let z : ◌≡◌ {A = ℕ} 0 1 = cc in absurd (omega arith)
-call-on w ws c (Some x) None v n e = let none : None ≡ Some c = sym (no-numbers x) ∙ e in let z : ◌≡◌ {A = ℕ} 0 1 = cc in absurd (omega arith)
-call-on w ws c (Some x) (Some ns) v n e =
-    let parts = parts-of x ns c e in
-    let first = verb-told w x v ∙ ap spelling (sym parts.verb-is) in
-    let others = numbers-told ws ns n in
-    let rest = others.0 ∙ ap (map decimal) (sym parts.numbers-are) in (
-      (λ i. first i ∷ rest i),
-      ap all_small parts.numbers-are ∙ others.1,
-    )
-
-call-told : (ws : List (List ℕ)) (c : Call) → call_by ws ≡ Some c → (ws ≡ words-for c) × Small c
-call-told [] c e = let z : ◌≡◌ {A = ℕ} 0 1 = cc in absurd (omega arith)
-call-told (w ∷ ws) c e = call-on w ws c (verb_of w) (numbers_of ws) refl refl e
-
-call-back : (c : Call) → Small c → call_by (words-for c) ≡ Some c
-call-back c h = (λ i. call_with (verb-back (verb c) i) (numbers-back (numbers c) h i)) ∙ with-back c
 
 -- keywords lack a space
 spelling-lacks : (v : Verb) → lacks 32 (spelling v) ≡ true
@@ -109,12 +74,17 @@ spelling-lacks End = refl
 spelling-lacks Tick = refl
 
 reads-back : (c : Call) → Small c → read_call (written c) ≡ Some c
-reads-back c h = ap call_by (pieces-words (spelling (verb c)) (numbers c) (spelling-lacks (verb c)) h) ∙ call-back c h
+reads-back c h =
+    ap call_by (pieces-words (spelling (verb c)) (numbers c) (spelling-lacks (verb c)) h)
+    ∙ (λ i. call_with (verb-back (verb c) i) (numbers-back (numbers c) h i))
+    ∙ with-back c
 
 says-written : (line : List ℕ) (c : Call) → read_call line ≡ Some c → (line ≡ written c) × Small c
 says-written line c e =
-    let told = call-told (pieces 32 line) c e in
-    (sym (only-cut 32 line).0.whole ∙ ap (joined 32) told.0, told.1)
+    let o = verb_of (before 32 line) in
+    let os = numbers_after (onward 32 line) in
+    let is = MatchOption-at_some ⊤ (Own o os) c (sym (ap call_by (pieces-first 32 line)) ∙ e) (own o os) in
+    line-told spelling verb_of verb numbers verb-told line c is.0 is.1
 
 pub call-rule : (line : List ℕ) → CallRule line
 call-rule line = ((λ c e. says-written line c e), λ c e h. ap read_call e ∙ reads-back c h)

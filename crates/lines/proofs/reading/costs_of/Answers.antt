@@ -1,22 +1,19 @@
-use Rattle.std.proofs.Common.{◌≡◌, ◌+◌, ◌≤◌, cond, ltb, [], ◌∷◌, ◌++◌, length, set, sym, ap, ◌∙◌, arith}
-use Rattle.std.proofs.lemmas.Bool.{eqb-false}
+use Rattle.std.proofs.Common.{◌≡◌, ◌+◌, cond, ltb, [], ◌∷◌, ◌++◌, length, set, sym, ap, ◌∙◌, arith}
 use Rattle.lines.specs.Rows.{costs_of, costs_said}
 use Rattle.lines.proofs.Begun.{Begun, ◌▸◌, none-at}
-use Rattle.lines.proofs.Values.{behind-short, pushed-is}
+use Rattle.lines.proofs.Values.{some-left, behind-short, pushed-is}
 use Rattle.lines.proofs.reading.costs_of.Goals as goal
 
 pub returns-in_err-cost : goal.returns-in_err-cost
 returns-in_err-cost c =
     let rest = c.loop-rest.rest.now in
-    let more : 1 ≤ length rest = omega (arith, eqb-false (length rest) 0 (sym c.loop-rest-test.ensures)) in
     let begun : Begun c.args.rest.now c.loop-rest.invariant.0 rest = record { joined = c.loop-rest.invariant.2 } in
-    c.from_residual.ensures ∙ sym (ap costs_said (none-at begun more c.in_err-cost.ensures))
+    c.from_residual.ensures ∙ sym (ap costs_said (none-at begun (some-left rest c.loop-rest-test.ensures) c.in_err-cost.ensures))
 
 pub loop-rest-smaller : goal.loop-rest-smaller
 loop-rest-smaller c =
-    let rest = c.loop-rest.rest.now in
-    let more : 1 ≤ length rest = omega (arith, eqb-false (length rest) 0 (sym c.loop-rest-test.ensures)) in
-    omega (arith, behind-short rest more, ap length c.in_ok-cost.ensures.1)
+    let shorter = behind-short c.loop-rest.rest.now (some-left c.loop-rest.rest.now c.loop-rest-test.ensures) in
+    omega (arith, shorter, ap length c.in_ok-cost.ensures.1)
 
 pub loop-rest-preserved : goal.loop-rest-preserved
 loop-rest-preserved c =
