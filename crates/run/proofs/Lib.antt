@@ -1,5 +1,6 @@
 pub mod Faults
 pub mod Firsts
+pub mod Held
 pub mod Paces
 pub mod Steady
 pub mod Ticks

@@ -1,5 +1,3 @@
-use Rattle.std.proofs.Common.{◌≡◌, None, sym, ◌∙◌}
-use Rattle.run.specs.Faults.{offer_fault}
 use Rattle.run.proofs.Faults.{takeable, offer-units}
 use Rattle.run.proofs.Run.offer.Goals as goal
 
@@ -9,6 +7,5 @@ offer_to-requires g c =
     let k = c.args.part in
     let u = c.args.units in
     let a = g.G.Source.allowed s.bank in
-    let clean : offer_fault s.accepted s.parts (a k 1) s.state.backlogs k u ≡ None = sym c.offer_fault.ensures ∙ c.in_default.is in
-    let units = offer-units s.accepted s.parts (a k 1) s.state.backlogs k u clean in
+    let units = offer-units s.accepted s.parts (a k 1) s.state.backlogs k u c.offer_fault.ensures c.in_default.is in
     takeable (g.G.Source.parts s.bank) (g.G.Source.demanded s.bank) a (g.met.G.Source.sound s.bank) k u units.0 units.1
