@@ -1,4 +1,3 @@
-pub mod First
 pub mod Numbered
 pub mod Steady
 pub mod Steps

@@ -12,7 +12,7 @@ use Rattle.run.specs.declared.state.Job.{Job}
 use Rattle.run.specs.declared.state.State.{State}
 use Rattle.paced.specs.Tables.{row_at, allowances_of}
 use Rattle.guarantee.specs.Views.{plan_of, view_of}
-use Rattle.guarantee.proofs.First.{first}
+use Rattle.run.proofs.Firsts.{first}
 use Rattle.guarantee.proofs.Numbered.{numbered-set}
 
 module _ (m : ℕ) (rows : List Row) (s : State) where

@@ -15,7 +15,7 @@ use Rattle.run.specs.Steps.{part_served, task_served, served, worked, older, age
 use Rattle.run.specs.declared.state.Job.{Job}
 use Rattle.run.specs.declared.state.State.{State}
 use Rattle.guarantee.specs.Views.{plan_of, view_of}
-use Rattle.guarantee.proofs.First.{first}
+use Rattle.run.proofs.Firsts.{first}
 use Rattle.guarantee.proofs.Numbered.{numbered-set, numbered-some}
 
 -- a job a tick later has the same units left

@@ -1,82 +1,67 @@
 -- The first number at which a function is not 0, and what stands at numbers that count from 1.
 use Rattle.std.proofs.Common.{◌≡◌, ℕ, zero, suc, ◌+◌, ◌-◌, ◌<◌, ◌≤◌, Bool, true, false, cond, leb, List, get_or, refl, sym, ap, ◌∙◌, inl, inr, add-one, arith}
-use Rattle.std.proofs.lemmas.Bool.{cond-true, cond-false, le-leb, lt-leb, cases_lt}
+use Rattle.std.proofs.lemmas.Bool.{cond-true, le-leb, leb-true, leb-false, cases_lt}
+use Rattle.std.proofs.lemmas.Bool.Decides.{nat_tests}
 use Rattle.run.specs.States.{no_job, backlog_of, left_of, first_at}
 use Rattle.run.specs.declared.state.Job.{Job}
 
+-- r is the first of the numbers 1 to n at which f is not 0, or 0
+pub record First (f : ℕ → ℕ) (n r : ℕ) : Type 0 where
+  pub within : r ≤ n
+  pub some : 1 ≤ r → 1 ≤ f r
+  pub before : (j : ℕ) → 1 ≤ j → j < r → f j ≡ 0
+  pub none : r ≡ 0 → (j : ℕ) → 1 ≤ j → j ≤ n → f j ≡ 0
+
 module _ (f : ℕ → ℕ) where
-  first-step : (n : ℕ) → first_at f (suc n) ≡ cond (leb 1 (first_at f n)) (first_at f n) (cond (leb 1 (f (suc n))) (suc n) 0)
-  first-step n = refl
-
-  -- one number more, where all before were passed
-  pub first-here : (i : ℕ) → first_at f i ≡ 0 → 1 ≤ f (i + 1) → first_at f (i + 1) ≡ i + 1
-  first-here i none some =
-      ap (first_at f) (add-one i)
-      ∙ cond-false (leb 1 (first_at f i)) (first_at f i) (cond (leb 1 (f (suc i))) (suc i) 0) (lt-leb 1 (first_at f i) (omega arith))
-      ∙ cond-true (leb 1 (f (suc i))) (suc i) 0 (le-leb 1 (f (suc i)) (omega (arith, ap f (add-one i))))
-      ∙ omega arith
-
-  pub first-passed : (i : ℕ) → first_at f i ≡ 0 → f (i + 1) ≤ 0 → first_at f (i + 1) ≡ 0
-  first-passed i none here =
-      ap (first_at f) (add-one i)
-      ∙ cond-false (leb 1 (first_at f i)) (first_at f i) (cond (leb 1 (f (suc i))) (suc i) 0) (lt-leb 1 (first_at f i) (omega arith))
-      ∙ cond-false (leb 1 (f (suc i))) (suc i) 0 (lt-leb 1 (f (suc i)) (omega (arith, ap f (add-one i))))
-
-  -- the first stays the first however many numbers follow
-  pub first-stays : (n i : ℕ) → i ≤ n → 1 ≤ first_at f i → first_at f n ≡ first_at f i
-  first-stays zero i h some = let e : i ≡ 0 = omega arith in ap (first_at f) (let e' : 0 ≡ i = omega arith in e')
-  first-stays (suc n) i h some =
-      elim (cases_lt i (suc n)) [
-        | inl below ↦
-            let e = first-stays n i (omega arith) some in
-            cond-true (leb 1 (first_at f n)) (first_at f n) (cond (leb 1 (f (suc n))) (suc n) 0) (le-leb 1 (first_at f n) (omega arith)) ∙ e
-        | inr up ↦ ap (first_at f) (let e : suc n ≡ i = omega arith in e)
-      ]
-
-  pub first-found : (n i : ℕ) → i < n → first_at f i ≡ 0 → 1 ≤ f (i + 1) → first_at f n ≡ i + 1
-  first-found n i h none some =
-      let here = first-here i none some in
-      first-stays n (i + 1) (omega arith) (omega arith) ∙ here
-
-  pub first-within : (n : ℕ) → first_at f n ≤ n
-  first-within zero = omega arith
-  first-within (suc n) = go (leb 1 (first_at f n)) (leb 1 (f (suc n))) (first-within n)
+  -- one number more
+  onward : (n : ℕ) → First f n (first_at f n) → First f (suc n) (first_at f (suc n))
+  onward n p = go (leb 1 (first_at f n)) (leb 1 (f (suc n))) refl refl
     where
-      go : (b c : Bool) → first_at f n ≤ n → cond b (first_at f n) (cond c (suc n) 0) ≤ suc n
-      go true c h = omega arith
-      go false true h = omega arith
-      go false false h = omega arith
+      go : (b c : Bool) → leb 1 (first_at f n) ≡ b → leb 1 (f (suc n)) ≡ c → First f (suc n) (cond b (first_at f n) (cond c (suc n) 0))
+      go true c e e' =
+          let some : 1 ≤ first_at f n = leb-true 1 (first_at f n) e in
+          record { within = omega (arith, p.within); some = p.some; before = p.before; none = λ z j a b. absurd (omega arith) }
+      go false true e e' =
+          let clear : first_at f n ≡ 0 = omega (arith, leb-false 1 (first_at f n) e) in
+          record { within = omega arith; some = λ h. leb-true 1 (f (suc n)) e'; before = λ j a b. p.none clear j a (omega arith); none = λ z j a b. absurd (omega arith) }
+      go false false e e' =
+          let clear : first_at f n ≡ 0 = omega (arith, leb-false 1 (first_at f n) e) in
+          record {
+            within = omega arith;
+            some = λ h. absurd (omega arith);
+            before = λ j a b. absurd (omega arith);
+            none = λ z j a b. elim (cases_lt n j) [ inl last ↦ (let at : j ≡ suc n = omega arith in omega (arith, ap f at, leb-false 1 (f (suc n)) e')) | inr within ↦ p.none clear j a within ];
+          }
 
-  -- where there is none, f is 0 at every number
-  pub first-none : (n : ℕ) → first_at f n ≡ 0 → (i : ℕ) → 1 ≤ i → i ≤ n → f i ≡ 0
-  first-none n none i some h =
-      elim (cases_lt 0 (f i)) [
-        | inl there ↦ absurd (found (first_at f (i - 1)) refl (omega (arith, ap f (let e : i - 1 + 1 ≡ i = omega arith in e))))
-        | inr none-there ↦ omega arith
-      ]
-    where
-      found : (m : ℕ) → first_at f (i - 1) ≡ m → 1 ≤ f (i - 1 + 1) → ⊥
-      found zero e there = omega (arith, first-found n (i - 1) (omega arith) e there)
-      found (suc m) e there = omega (arith, first-stays n (i - 1) (omega arith) (omega arith))
+  pub first : (n : ℕ) → First f n (first_at f n)
+  first zero = record { within = omega arith; some = λ h. absurd (omega arith); before = λ j a b. absurd (omega arith); none = λ z j a b. absurd (omega arith) }
+  first (suc n) = onward n (first n)
 
-  -- the first number at which f is not 0, if there is one: f is 0 at all before it
-  pub first-some : (n k : ℕ) → first_at f n ≡ k → 1 ≤ k → (k ≤ n) × (1 ≤ f k) × ((i : ℕ) → 1 ≤ i → i < k → f i ≡ 0)
-  first-some zero k e some = absurd (omega arith)
-  first-some (suc n) k e some =
-      elim (cases_lt 0 (first_at f n)) [
-        | inl before ↦
-            let same = cond-true (leb 1 (first_at f n)) (first_at f n) (cond (leb 1 (f (suc n))) (suc n) 0) (le-leb 1 (first_at f n) before) in
-            let earlier = first-some n k (sym same ∙ e) some in
-            (omega (arith, earlier.0), earlier.1, earlier.2)
-        | inr after ↦
-            let skip = cond-false (leb 1 (first_at f n)) (first_at f n) (cond (leb 1 (f (suc n))) (suc n) 0) (lt-leb 1 (first_at f n) (omega arith)) in
-            elim (cases_lt 0 (f (suc n))) [
-              | inl here ↦
-                  let last : k ≡ suc n = sym e ∙ skip ∙ cond-true (leb 1 (f (suc n))) (suc n) 0 (le-leb 1 (f (suc n)) here) in
-                  (omega arith, omega (arith, ap f last), λ i low less. first-none n (omega arith) i low (omega arith))
-              | inr nowhere ↦ absurd (omega (arith, sym e ∙ skip ∙ cond-false (leb 1 (f (suc n))) (suc n) 0 (lt-leb 1 (f (suc n)) (omega arith))))
+  -- a loop over the numbers 1 to n, where f is 0 at the first i: v stands at the next
+  pub first-found : (n i v : ℕ) → f (i + 1) ≡ v → first_at f i ≡ 0 → i < n → 1 ≤ v → i + 1 ≡ first_at f n
+  first-found n i v at passed h some =
+      let p = first n in
+      elim (cases_lt (first_at f n) (i + 1)) [
+        | inl low ↦
+            elim (cases_lt 0 (first_at f n)) [
+              | inl there ↦ absurd (omega (arith, p.some there, (first i).none passed (first_at f n) there (omega arith)))
+              | inr none ↦ absurd (omega (arith, at, p.none (omega arith) (i + 1) (omega arith) (omega arith)))
+            ]
+        | inr high ↦
+            elim (cases_lt (i + 1) (first_at f n)) [
+              | inl over ↦ absurd (omega (arith, at, p.before (i + 1) (omega arith) over))
+              | inr same ↦ omega arith
             ]
       ]
+
+  pub first-passed : (i v : ℕ) → f (i + 1) ≡ v → first_at f i ≡ 0 → v ≤ 0 → first_at f (i + 1) ≡ 0
+  first-passed i v at passed none =
+      let more : first_at f (i + 1) ≡ first_at f (suc i) = ap (first_at f) (add-one i) in
+      let here : f (i + 1) ≡ f (suc i) = ap f (add-one i) in
+      grind (arith, nat_tests)
+
+  pub first-end : (n i : ℕ) → first_at f i ≡ 0 → i ≡ n → 0 ≡ first_at f n
+  first-end n i passed e = sym passed ∙ ap (first_at f) e
 
 pub backlog-at : (xs : List ℕ) (i : ℕ) → backlog_of xs (i + 1) ≡ get_or xs i 0
 backlog-at xs i = cond-true (leb 1 (i + 1)) (get_or xs (i + 1 - 1) 0) 0 (le-leb 1 (i + 1) (omega arith)) ∙ ap (λ k. get_or xs k 0) (omega arith)

@@ -9,10 +9,10 @@ use Rattle.run.specs.States.{no_job, left_of, first_at}
 use Rattle.run.specs.Steps.{told_age, foremost, due_task, older, Placed}
 use Rattle.run.specs.declared.state.Job.{Job}
 use Rattle.run.specs.declared.state.State.{State}
-use Rattle.run.proofs.Firsts.{first-within}
+use Rattle.run.proofs.Firsts.{first}
 
 pub foremost-within : (n : ℕ) (s : State) (b : ℕ) → n ≤ b → s.holder ≤ b → foremost n s ≤ b
-foremost-within n s b h k = go (leb 1 s.holder) (first-within (left_of s.jobs) n)
+foremost-within n s b h k = go (leb 1 s.holder) (first (left_of s.jobs) n).within
   where
     go : (t : Bool) → first_at (left_of s.jobs) n ≤ n → cond t s.holder (first_at (left_of s.jobs) n) ≤ b
     go true f = k

@@ -1,13 +1,13 @@
 use Rattle.std.proofs.Common.{sym, subst, arith}
 use Rattle.run.specs.States.{backlog_of}
 use Rattle.run.specs.Steps.{Placed}
-use Rattle.run.proofs.Firsts.{first-within}
+use Rattle.run.proofs.Firsts.{first}
 use Rattle.run.proofs.Ticks.{foremost-within, task-placed}
 use Rattle.run.proofs.steps.due.Goals as goal
 
 pub returns-then-part-gt0-clause-placed : goal.returns-then-part-gt0-clause-placed
 returns-then-part-gt0-clause-placed c =
-    let within = first-within (backlog_of c.args.state.backlogs) c.args.parts in
+    let within = (first (backlog_of c.args.state.backlogs) c.args.parts).within in
     (omega (arith, c.first_backlog-part.ensures, within), omega (arith, c.first_backlog-part.ensures, within, c.requires.parts))
 
 pub due_task-requires : goal.due_task-requires
