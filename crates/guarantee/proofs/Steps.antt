@@ -44,25 +44,12 @@ module _ (m : ℕ) (rows : List Row) (s : State) where
   pub ended-step : (a : ℕ → ℕ → ℕ) (i : ℕ) → 1 ≤ i → i ≤ length s.jobs → 1 ≤ left_of s.jobs i → Ended (view_of a m rows s) i (view_of a m rows (ended s i))
   ended-step a i some within pending = go (eqb s.holder i) refl
     where
+      left-with : (holder held : ℕ) → holder ≡ cond (eqb s.holder i) 0 s.holder → held ≡ cond (eqb s.holder i) 0 s.held → Ended (view_of a m rows s) i (view_of a m rows (record { backlogs = s.backlogs; jobs = set s.jobs (i - 1) no_job; holder = holder; held = held }))
+      left-with _ _ holder held = record { pending = pending; left = λ j. ended-left i j some within; age = λ j. ended-age i j some within; holder = holder; held = held; rest = refl }
+
       go : (b : Bool) → eqb s.holder i ≡ b → Ended (view_of a m rows s) i (view_of a m rows (cond b (let_go (removed s i)) (removed s i)))
-      go true e =
-          record {
-            pending = pending;
-            left = λ j. ended-left i j some within;
-            age = λ j. ended-age i j some within;
-            holder = sym (cond-true (eqb s.holder i) 0 s.holder e);
-            held = sym (cond-true (eqb s.holder i) 0 s.held e);
-            rest = refl;
-          }
-      go false e =
-          record {
-            pending = pending;
-            left = λ j. ended-left i j some within;
-            age = λ j. ended-age i j some within;
-            holder = sym (cond-false (eqb s.holder i) 0 s.holder e);
-            held = sym (cond-false (eqb s.holder i) 0 s.held e);
-            rest = refl;
-          }
+      go true e = left-with 0 0 (sym (cond-true (eqb s.holder i) 0 s.holder e)) (sym (cond-true (eqb s.holder i) 0 s.held e))
+      go false e = left-with s.holder s.held (sym (cond-false (eqb s.holder i) 0 s.holder e)) (sym (cond-false (eqb s.holder i) 0 s.held e))
 
   pub granted-step : (start : List Row) (n : ℕ) (d a : ℕ → ℕ → ℕ) (limits : List Limit) (bounds : List ℕ) (i u : ℕ) → 1 ≤ i → i ≤ m → grantable m limits s i u ≡ true → Granted (plan_of n d m start limits bounds) (view_of a m rows s) i u (view_of a m rows (granted s i u))
   granted-step start n d a limits bounds i u some last ok =
