@@ -1,6 +1,6 @@
 -- The steps of a run, as the model has them: what is done to the state of a run is what the model's step says.
-use Rattle.std.proofs.Common.{◌≡◌, ℕ, ◌+◌, ◌-◌, ◌≤◌, Bool, true, false, cond, eqb, leb, ◌&&◌, List, length, set, sym, refl, ap, ◌∙◌, inl, inr, arith}
-use Rattle.std.proofs.lemmas.Bool.{cond-true, cond-false, ne_eqb, eqb-true, leb-true, and_parts, cases_eq}
+use Rattle.std.proofs.Common.{◌≡◌, ℕ, ◌+◌, ◌-◌, ◌≤◌, true, cond, eqb, leb, ◌&&◌, List, length, set, sym, refl, ap, ◌∙◌, inl, inr, arith}
+use Rattle.std.proofs.lemmas.Bool.{cond-true, cond-false, cond_both, ne_eqb, eqb-true, leb-true, and_parts, cases_eq}
 use Rattle.source.specs.Facts.{Taken}
 use Rattle.paced.specs.declared.row.Row.{Row}
 use Rattle.plan.specs.declared.tasks.Limit.{Limit}
@@ -42,14 +42,13 @@ module _ (m : ℕ) (rows : List Row) (s : State) where
   let_go-step a i holds = record { holds = holds; rest = refl }
 
   pub ended-step : (a : ℕ → ℕ → ℕ) (i : ℕ) → 1 ≤ i → i ≤ length s.jobs → 1 ≤ left_of s.jobs i → Ended (view_of a m rows s) i (view_of a m rows (ended s i))
-  ended-step a i some within pending = go (eqb s.holder i) refl
+  ended-step a i some within pending =
+      cond_both (eqb s.holder i) (let_go (removed s i)) (removed s i) (λ t. Ended (view_of a m rows s) i (view_of a m rows t))
+      (λ e. left-with 0 0 (sym (cond-true (eqb s.holder i) 0 s.holder e)) (sym (cond-true (eqb s.holder i) 0 s.held e)))
+      (λ e. left-with s.holder s.held (sym (cond-false (eqb s.holder i) 0 s.holder e)) (sym (cond-false (eqb s.holder i) 0 s.held e)))
     where
       left-with : (holder held : ℕ) → holder ≡ cond (eqb s.holder i) 0 s.holder → held ≡ cond (eqb s.holder i) 0 s.held → Ended (view_of a m rows s) i (view_of a m rows (record { backlogs = s.backlogs; jobs = set s.jobs (i - 1) no_job; holder = holder; held = held }))
       left-with _ _ holder held = record { pending = pending; left = λ j. ended-left i j some within; age = λ j. ended-age i j some within; holder = holder; held = held; rest = refl }
-
-      go : (b : Bool) → eqb s.holder i ≡ b → Ended (view_of a m rows s) i (view_of a m rows (cond b (let_go (removed s i)) (removed s i)))
-      go true e = left-with 0 0 (sym (cond-true (eqb s.holder i) 0 s.holder e)) (sym (cond-true (eqb s.holder i) 0 s.held e))
-      go false e = left-with s.holder s.held (sym (cond-false (eqb s.holder i) 0 s.holder e)) (sym (cond-false (eqb s.holder i) 0 s.held e))
 
   pub granted-step : (start : List Row) (n : ℕ) (d a : ℕ → ℕ → ℕ) (limits : List Limit) (bounds : List ℕ) (i u : ℕ) → 1 ≤ i → i ≤ m → grantable m limits s i u ≡ true → Granted (plan_of n d m start limits bounds) (view_of a m rows s) i u (view_of a m rows (granted s i u))
   granted-step start n d a limits bounds i u some last ok =

@@ -1,6 +1,6 @@
 -- A tick of a run is a tick of the model.
 use Rattle.std.proofs.Common.{◌≡◌, ℕ, ◌+◌, ◌-◌, ◌<◌, ◌≤◌, min, Bool, true, false, cond, eqb, leb, ◌&&◌, List, map, length, get_or, ◌⊎◌, sym, refl, ap, ◌∙◌, subst, inl, inr, arith, length-set}
-use Rattle.std.proofs.lemmas.Bool.{cond-true, cond-false, eq-eqb, ne_eqb, leb-true, leb-false, cases_eq}
+use Rattle.std.proofs.lemmas.Bool.{cond-true, cond-false, cond_both, eq-eqb, ne_eqb, leb-true, leb-false, cases_eq}
 use Rattle.std.proofs.Math.ListN.{get_or-map}
 use Rattle.std.proofs.lemmas.List.{length-map}
 use Rattle.source.specs.Facts.{Ticked}
@@ -16,15 +16,8 @@ use Rattle.run.specs.declared.state.Job.{Job}
 use Rattle.run.specs.declared.state.State.{State}
 use Rattle.guarantee.specs.Views.{plan_of, view_of}
 use Rattle.run.proofs.Firsts.{first}
+use Rattle.run.proofs.Steady.{left-older}
 use Rattle.guarantee.proofs.Numbered.{numbered-set, numbered-some}
-
--- a job a tick later has the same units left
-older-left : (j : Job) → (older j).left ≡ j.left
-older-left j = go (leb 1 j.left) refl
-  where
-    go : (b : Bool) → leb 1 j.left ≡ b → (let k : Job = cond b (record { left = j.left; age = min (j.age + 1) 4294967295 }) no_job in k.left) ≡ j.left
-    go true e = refl
-    go false e = omega (arith, leb-false 1 j.left e)
 
 older-age : (j : Job) → (older j).age ≡ cond (leb 1 j.left) (min (j.age + 1) 4294967295) 0
 older-age j = go (leb 1 j.left)
@@ -33,49 +26,33 @@ older-age j = go (leb 1 j.left)
     go true = refl
     go false = refl
 
-module _ (jobs : List Job) where
-  aged-at : (i : ℕ) → get_or (map older jobs) i no_job ≡ older (get_or jobs i no_job)
-  aged-at i = get_or-map older jobs i no_job
-
-  aged-left : (i : ℕ) → left_of (map older jobs) i ≡ left_of jobs i
-  aged-left i = ap (λ x. cond (leb 1 i) x 0) (ap (λ j. j.left) (aged-at (i - 1)) ∙ older-left (get_or jobs (i - 1) no_job))
-
-  aged-age : (i : ℕ) → age_of (map older jobs) i ≡ cond (leb 1 (left_of jobs i)) (min (age_of jobs i + 1) 4294967295) 0
-  aged-age i = ap (λ x. cond (leb 1 i) x 0) (ap (λ j. j.age) (aged-at (i - 1)) ∙ older-age (get_or jobs (i - 1) no_job)) ∙ go (leb 1 i)
-    where
-      go : (b : Bool) → cond b (cond (leb 1 (get_or jobs (i - 1) no_job).left) (min ((get_or jobs (i - 1) no_job).age + 1) 4294967295) 0) 0 ≡ cond (leb 1 (cond b (get_or jobs (i - 1) no_job).left 0)) (min (cond b (get_or jobs (i - 1) no_job).age 0 + 1) 4294967295) 0
-      go true = refl
-      go false = refl
+aged-age : (jobs : List Job) (i : ℕ) → age_of (map older jobs) i ≡ cond (leb 1 (left_of jobs i)) (min (age_of jobs i + 1) 4294967295) 0
+aged-age jobs i = ap (λ x. cond (leb 1 i) x 0) (ap (λ j. j.age) (get_or-map older jobs (i - 1) no_job) ∙ older-age (get_or jobs (i - 1) no_job)) ∙ go (leb 1 i)
+  where
+    go : (b : Bool) → cond b (cond (leb 1 (get_or jobs (i - 1) no_job).left) (min ((get_or jobs (i - 1) no_job).age + 1) 4294967295) 0) 0 ≡ cond (leb 1 (cond b (get_or jobs (i - 1) no_job).left 0)) (min (cond b (get_or jobs (i - 1) no_job).age 0 + 1) 4294967295) 0
+    go true = refl
+    go false = refl
 
 -- what is settled is the hold alone
 module _ (s : State) where
-  settled-backlogs : (settled s).backlogs ≡ s.backlogs
-  settled-backlogs = go (leb 1 s.held && leb 1 (left_of s.jobs s.holder))
+  settled-as : {A : Type 0} (f : State → A) → f (settled s) ≡ cond (leb 1 s.held && leb 1 (left_of s.jobs s.holder)) (f s) (f (let_go s))
+  settled-as f = go (leb 1 s.held && leb 1 (left_of s.jobs s.holder))
     where
-      go : (b : Bool) → (let t : State = cond b s (let_go s) in t.backlogs) ≡ s.backlogs
+      go : (b : Bool) → f (cond b s (let_go s)) ≡ cond b (f s) (f (let_go s))
       go true = refl
       go false = refl
+
+  settled-backlogs : (settled s).backlogs ≡ s.backlogs
+  settled-backlogs = cond_both (leb 1 s.held && leb 1 (left_of s.jobs s.holder)) s (let_go s) (λ t. t.backlogs ≡ s.backlogs) (λ e. refl) (λ e. refl)
 
   settled-jobs : (settled s).jobs ≡ s.jobs
-  settled-jobs = go (leb 1 s.held && leb 1 (left_of s.jobs s.holder))
-    where
-      go : (b : Bool) → (let t : State = cond b s (let_go s) in t.jobs) ≡ s.jobs
-      go true = refl
-      go false = refl
+  settled-jobs = cond_both (leb 1 s.held && leb 1 (left_of s.jobs s.holder)) s (let_go s) (λ t. t.jobs ≡ s.jobs) (λ e. refl) (λ e. refl)
 
   settled-holder : (settled s).holder ≡ cond (leb 1 s.held && leb 1 (left_of s.jobs s.holder)) s.holder 0
-  settled-holder = go (leb 1 s.held && leb 1 (left_of s.jobs s.holder))
-    where
-      go : (b : Bool) → (let t : State = cond b s (let_go s) in t.holder) ≡ cond b s.holder 0
-      go true = refl
-      go false = refl
+  settled-holder = settled-as (λ t. t.holder)
 
   settled-held : (settled s).held ≡ cond (leb 1 s.held && leb 1 (left_of s.jobs s.holder)) s.held 0
-  settled-held = go (leb 1 s.held && leb 1 (left_of s.jobs s.holder))
-    where
-      go : (b : Bool) → (let t : State = cond b s (let_go s) in t.held) ≡ cond b s.held 0
-      go true = refl
-      go false = refl
+  settled-held = settled-as (λ t. t.held)
 
 -- s1 is s after the unit of a tick was given
 record Gave (s s1 : State) (got : Got) : Type 0 where
@@ -141,7 +118,7 @@ module _ (n : ℕ) (d a a' : ℕ → ℕ → ℕ) (m : ℕ) (start rows rows' : 
   passed-from : Gave s s1 got → Due (plan_of n d m start limits bounds) (view_of a m rows s) got → AgeTold (plan_of n d m start limits bounds) (view_of a m rows s) got → Ticked a a' → Ticked (allowances_of m (row_at rows)) (allowances_of m (row_at rows')) → Passed (plan_of n d m start limits bounds) (view_of a m rows s) got (view_of a' m rows' (settled (aged s1)))
   passed-from gave who told bank tasks =
       let s2 = aged s1 in
-      let left : (i : ℕ) → left_of (settled s2).jobs i ≡ left_of s1.jobs i = λ i. ap (λ js. left_of js i) (settled-jobs s2) ∙ aged-left s1.jobs i in
+      let left : (i : ℕ) → left_of (settled s2).jobs i ≡ left_of s1.jobs i = λ i. ap (λ js. left_of js i) (settled-jobs s2) ∙ left-older s1.jobs i in
       let goes : (leb 1 s1.held && leb 1 (left_of (map older s1.jobs) s1.holder)) ≡ (leb 1 (s.held - task_unit got s.holder) && leb 1 (left_of (settled s2).jobs s.holder)) =
       ap (λ x. leb 1 x && leb 1 (left_of (map older s1.jobs) s1.holder)) gave.held
       ∙ ap (λ x. leb 1 (s.held - task_unit got s.holder) && leb 1 (left_of (map older s1.jobs) x)) gave.holder

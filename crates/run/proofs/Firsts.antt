@@ -1,6 +1,6 @@
 -- The first number at which a function is not 0, and what stands at numbers that count from 1.
 use Rattle.std.proofs.Common.{◌≡◌, ℕ, zero, suc, ◌+◌, ◌-◌, ◌<◌, ◌≤◌, Bool, true, false, cond, leb, List, get_or, refl, sym, ap, ◌∙◌, inl, inr, add-one, arith}
-use Rattle.std.proofs.lemmas.Bool.{cond-true, le-leb, leb-true, leb-false, cases_lt}
+use Rattle.std.proofs.lemmas.Bool.{cond-true, le-leb, leb-true, leb-false, cases_lt, cases_order}
 use Rattle.std.proofs.lemmas.Bool.Decides.{nat_tests}
 use Rattle.run.specs.States.{no_job, backlog_of, left_of, first_at}
 use Rattle.run.specs.declared.state.Job.{Job}
@@ -41,17 +41,14 @@ module _ (f : ℕ → ℕ) where
   pub first-found : (n i v : ℕ) → f (i + 1) ≡ v → first_at f i ≡ 0 → i < n → 1 ≤ v → i + 1 ≡ first_at f n
   first-found n i v at passed h some =
       let p = first n in
-      elim (cases_lt (first_at f n) (i + 1)) [
-        | inl low ↦
+      elim (cases_order (first_at f n) (i + 1)) [
+        | inl same ↦ sym same
+        | inr (inl low) ↦
             elim (cases_lt 0 (first_at f n)) [
               | inl there ↦ absurd (omega (arith, p.some there, (first i).none passed (first_at f n) there (omega arith)))
               | inr none ↦ absurd (omega (arith, at, p.none (omega arith) (i + 1) (omega arith) (omega arith)))
             ]
-        | inr high ↦
-            elim (cases_lt (i + 1) (first_at f n)) [
-              | inl over ↦ absurd (omega (arith, at, p.before (i + 1) (omega arith) over))
-              | inr same ↦ omega arith
-            ]
+        | inr (inr high) ↦ absurd (omega (arith, at, p.before (i + 1) (omega arith) high))
       ]
 
   pub first-passed : (i v : ℕ) → f (i + 1) ≡ v → first_at f i ≡ 0 → v ≤ 0 → first_at f (i + 1) ≡ 0

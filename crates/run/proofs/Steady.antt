@@ -3,7 +3,7 @@ use Rattle.std.proofs.Common.{◌≡◌, ℕ, ◌+◌, ◌-◌, ◌≤◌, min, 
 use Rattle.std.specs.List.{sum}
 use Rattle.std.specs.Prelude.{nat_eq}
 use Rattle.std.proofs.Math.ListN.{get_or-map}
-use Rattle.std.proofs.lemmas.Bool.{cond-true, le-leb, leb-true, leb-false, and_parts}
+use Rattle.std.proofs.lemmas.Bool.{cond-true, cond_both, le-leb, leb-true, leb-false, and_parts}
 use Rattle.std.proofs.lemmas.Bool.Decides.{nat_tests}
 use Rattle.std.proofs.lemmas.List.{length-map}
 use Rattle.std.proofs.lemmas.List.Sums.{sum_by-set}
@@ -41,11 +41,7 @@ left-of : (jobs : List Job) (i : ℕ) → 1 ≤ i → left_of jobs i ≡ (get_or
 left-of jobs i low = cond-true (leb 1 i) (get_or jobs (i - 1) no_job).left 0 (le-leb 1 i low)
 
 older-left : (j : Job) → (older j).left ≡ j.left
-older-left j = go (leb 1 j.left) refl
-  where
-    go : (b : Bool) → leb 1 j.left ≡ b → (cond b (record { left = j.left; age = min (j.age + 1) 4294967295 }) no_job).left ≡ j.left
-    go true e = refl
-    go false e = let none = leb-false 1 j.left e in omega arith
+older-left j = cond_both (leb 1 j.left) (record { left = j.left; age = min (j.age + 1) 4294967295 }) no_job (λ k. k.left ≡ j.left) (λ e. refl) (λ e. let none = leb-false 1 j.left e in omega arith)
 
 -- growing older takes no units
 pub left-older : (jobs : List Job) (i : ℕ) → left_of (map older jobs) i ≡ left_of jobs i
@@ -70,18 +66,13 @@ module _ (limits : List Limit) (n : ℕ) (s : State) (steady : Steady limits n s
   released-steady lasting i u low none = written-steady i (record { left = u; age = 0 }) low (idle-other lasting i low none)
 
   pub ended-steady : (i : ℕ) → 1 ≤ i → Steady limits n (ended s i)
-  ended-steady i low = go (nat_eq s.holder i) refl
-    where
-      go : (b : Bool) → nat_eq s.holder i ≡ b → Steady limits n (cond b (let_go (removed s i)) (removed s i))
-      go true e = record { backlogs = steady.backlogs; jobs = length-set s.jobs (i - 1) no_job ∙ steady.jobs; waiting = steady.waiting; known = omega arith; within = omega arith; short = omega arith }
-      go false e = written-steady i no_job low (λ same. grind (arith, nat_tests))
+  ended-steady i low =
+      cond_both (nat_eq s.holder i) (let_go (removed s i)) (removed s i) (Steady limits n)
+      (λ e. record { backlogs = steady.backlogs; jobs = length-set s.jobs (i - 1) no_job ∙ steady.jobs; waiting = steady.waiting; known = omega arith; within = omega arith; short = omega arith })
+      (λ e. written-steady i no_job low (λ same. grind (arith, nat_tests)))
 
   pub ended-lasting : Lasting s → (i : ℕ) → Lasting (ended s i)
-  ended-lasting lasting i = go (nat_eq s.holder i)
-    where
-      go : (b : Bool) → Lasting (cond b (let_go (removed s i)) (removed s i))
-      go true h = absurd (omega arith)
-      go false h = lasting h
+  ended-lasting lasting i = cond_both (nat_eq s.holder i) (let_go (removed s i)) (removed s i) Lasting (λ e h. absurd (omega arith)) (λ e. lasting)
 
   part_served-steady : (k : ℕ) → 1 ≤ k → k ≤ 16 → Steady limits n (part_served s k)
   part_served-steady k low high =
@@ -118,18 +109,13 @@ module _ (limits : List Limit) (n : ℕ) (s : State) (steady : Steady limits n s
   aged-steady = record { backlogs = steady.backlogs; jobs = length-map s.jobs older ∙ steady.jobs; waiting = steady.waiting; known = steady.known; within = omega (arith, steady.within, left-older s.jobs s.holder); short = steady.short }
 
   pub settled-steady : Steady limits n (settled s)
-  settled-steady = go (leb 1 s.held && leb 1 (left_of s.jobs s.holder))
-    where
-      go : (b : Bool) → Steady limits n (cond b s (let_go s))
-      go true = steady
-      go false = let_go-steady
+  settled-steady = cond_both (leb 1 s.held && leb 1 (left_of s.jobs s.holder)) s (let_go s) (Steady limits n) (λ e. steady) (λ e. let_go-steady)
 
 pub settled-lasting : (s : State) → Lasting (settled s)
-settled-lasting s = go (leb 1 s.held && leb 1 (left_of s.jobs s.holder)) refl
-  where
-    go : (b : Bool) → (leb 1 s.held && leb 1 (left_of s.jobs s.holder)) ≡ b → Lasting (cond b s (let_go s))
-    go true e h = leb-true 1 s.held (and_parts (leb 1 s.held) (leb 1 (left_of s.jobs s.holder)) e).0
-    go false e h = absurd (omega arith)
+settled-lasting s =
+    cond_both (leb 1 s.held && leb 1 (left_of s.jobs s.holder)) s (let_go s) Lasting
+    (λ e h. leb-true 1 s.held (and_parts (leb 1 s.held) (leb 1 (left_of s.jobs s.holder)) e).0)
+    (λ e h. absurd (omega arith))
 
 pub passed-steady : (limits : List Limit) (n : ℕ) (s : State) → Steady limits n s → (got : Got) → Placed got → Steady limits n (passed s got)
 passed-steady limits n s steady got placed = settled-steady limits n (aged (served s got)) (aged-steady limits n (served s got) (served-steady limits n s steady got placed))
