@@ -1,6 +1,7 @@
 -- The calls of a run of an accepted plan lead, as the model has it, from its start to its end.
 use Rattle.std.proofs.Common.{◌≡◌, ℕ, ◌+◌, ◌-◌, ◌<◌, ◌≤◌, Bool, true, false, cond, eqb, leb, ◌&&◌, List, [], ◌∷◌, length, get_or, Some, None, Option, MatchOption, sym, refl, ap, ◌∙◌, subst, arith, length-set}
 use Rattle.std.proofs.lemmas.Bool.{leb-true, eqb-true, and_parts}
+use Rattle.refusal.specs.declared.Refusal.{Refusal}
 use Rattle.refusal.specs.declared.Fault.{Fault}
 use Rattle.refusal.specs.declared.Fault.TheVariants.{NoSuchNumber, UnitsNotAllowed, HoldNotGranted, NothingToEnd, JobPending}
 use Rattle.source.specs.Facts.{is_part, Sound, Driven}
@@ -32,11 +33,6 @@ use Rattle.guarantee.proofs.Steady.{Steady, allowances-few, steady-given, steady
 no-fault : (b : Bool) (x : Option Fault) (e : Fault) → cond b x (Some e) ≡ None → (b ≡ true) × (x ≡ None)
 no-fault true x e h = (refl, h)
 no-fault false x e h = let z : ◌≡◌ {A = ℕ} 0 1 = cc in absurd (omega arith)
-
--- what holds of a call by its fault
-by-fault : {P : Type 0} {Q : Fault → Type 0} (R : Type 0) (o : Option Fault) → MatchOption o P Q → (o ≡ None → P → R) → ((e : Fault) → o ≡ Some e → Q e → R) → R
-by-fault R None h none some = none refl h
-by-fault R (Some e) h none some = some e refl h
 
 -- what every state of the run keeps to: the bank's parts and demand, the tasks' rows, places for all, and a known holder
 pub record Inside {S : Type 0} (parts : S → ℕ) (demanded : S → ℕ → ℕ → ℕ) (n : ℕ) (d : ℕ → ℕ → ℕ) (m : ℕ) (start : List Row) (s : Now S) : Type 0 where
@@ -86,9 +82,14 @@ module _ {S : Type 0} (parts : S → ℕ) (demanded allowed : S → ℕ → ℕ 
   abbrev DidHere : Call → Answer → Now S → Now S → Type 0
   DidHere c a s t = Did allowed takes ticks fixed c a s t
 
-  -- the same state, and so the same view
-  same-inside : (s t : Now S) → t ≡ s → In s → In t
-  same-inside s t e h = subst In (sym e) h
+  -- a call with its answer and the view that it leads to, by other names
+  answered : (c : Call) (s t : Now S) (a b : Answer) (v : model.State) → a ≡ b → v ≡ view t → Step plan (view s) c b v → Step plan (view s) c a (view t)
+  answered c s t a b v told to step = subst (λ y. Step plan (view s) c y (view t)) (sym told) (subst (λ w. Step plan (view s) c b w) to step)
+
+  -- a call by its fault: what is refused changes nothing
+  by-answer : (c : Call) (s t : Now S) (a : Answer) (o : Option Fault) {P : Type 0} (r : Fault → Refusal) → MatchOption o P (λ e. (a ≡ answers.Refused (r e)) × (t ≡ s)) → ((e : Refusal) → Step plan (view s) c (answers.Refused e) (view s)) → In s → (o ≡ None → P → Stepped c a s t) → Stepped c a s t
+  by-answer c s t a None r x stays h done = done refl x
+  by-answer c s t a (Some e) r x stays h done = (answered c s t a _ (view s) x.0 (ap view (sym x.1)) (stays _), subst In (sym x.1) h)
 
   -- the bank and the rows are as they were
   kept-inside : (s t : Now S) → In s → t.bank ≡ s.bank → t.rows ≡ s.rows → length t.state.backlogs ≡ 16 → length t.state.jobs ≡ 16 → t.state.holder ≤ m → In t
@@ -100,13 +101,13 @@ module _ {S : Type 0} (parts : S → ℕ) (demanded allowed : S → ℕ → ℕ 
 
   step-offer : (s t : Now S) (k u : ℕ) (a : Answer) → In s → DidHere (Offer k u) a s t → Stepped (Offer k u) a s t
   step-offer s t k u a h did =
-      by-fault (Stepped (Offer k u) a s t) (offer_fault true n (allowed s.bank k 1) s.state.backlogs k u) did
+      by-answer (Offer k u) s t a (offer_fault true n (allowed s.bank k 1) s.state.backlogs k u) _ did (λ r. refl) h
       (λ e x. (let f = no-fault (is_part n k) _ NoSuchNumber e in
       let b = part-bounds n k f.0 in
       let g = driven.taken s.bank t.bank k u x.1 in
       let off = offered-step m s.rows s.state (allowed s.bank) (allowed t.bank) k u b.0 (omega (arith, h.backlogs)) g.1 in
       let to : view_of (allowed t.bank) m s.rows (grown s.state k u) ≡ view t = λ i. view_of (allowed t.bank) m (sym x.2 i) (sym x.3 i) in (
-        subst (λ y. Step plan (view s) (Offer k u) y (view t)) (sym x.0) (subst (λ v. Step plan (view s) (Offer k u) answers.Done v) to off),
+        answered (Offer k u) s t a answers.Done _ x.0 to off,
         record {
           parts-are = g.0.count ∙ h.parts-are;
           demand-is = g.0.demand ∙ h.demand-is;
@@ -116,11 +117,10 @@ module _ {S : Type 0} (parts : S → ℕ) (demanded allowed : S → ℕ → ℕ 
           holder = omega (arith, ap (λ y. y.holder) x.3, h.holder);
         },
       )))
-      (λ f e x. (subst (λ y. Step plan (view s) (Offer k u) y (view t)) (sym x.0) (ap view x.1), same-inside s t x.1 h))
 
   step-release : (s t : Now S) (i u : ℕ) (a : Answer) → In s → DidHere (Release i u) a s t → Stepped (Release i u) a s t
   step-release s t i u a h did =
-      by-fault (Stepped (Release i u) a s t) (release_fault true m (allowances_of m (row_at s.rows) i 1) s.state.jobs i u) did
+      by-answer (Release i u) s t a (release_fault true m (allowances_of m (row_at s.rows) i 1) s.state.jobs i u) _ did (λ r. refl) h
       (λ e x. (let f = no-fault (is_part m i) _ NoSuchNumber e in
       let b = part-bounds m i f.0 in
       let g = no-fault (leb 1 u && leb u (allowances_of m (row_at s.rows) i 1)) _ UnitsNotAllowed f.1 in
@@ -129,7 +129,7 @@ module _ {S : Type 0} (parts : S → ℕ) (demanded allowed : S → ℕ → ℕ 
       let none : left_of s.state.jobs i ≡ 0 = eqb-true (left_of s.state.jobs i) 0 j.0 in
       let y = steady-given m start s.rows h.steady i u t.rows x.2 in
       let to : view_of (allowed s.bank) m t.rows (released s.state i u) ≡ view t = λ k. view_of (allowed (sym x.1 k)) m t.rows (sym x.3 k) in (
-        subst (λ z. Step plan (view s) (Release i u) z (view t)) (sym x.0) (subst (λ v. Step plan (view s) (Release i u) answers.Done v) to (released-step m s.rows s.state start n d (allowed s.bank) limits bounds t.rows i u b.0 b.1 (omega (arith, h.jobs)) (leb-true 1 u units.0) none y.1)),
+        answered (Release i u) s t a answers.Done _ x.0 to (released-step m s.rows s.state start n d (allowed s.bank) limits bounds t.rows i u b.0 b.1 (omega (arith, h.jobs)) (leb-true 1 u units.0) none y.1),
         record {
           parts-are = ap parts x.1 ∙ h.parts-are;
           demand-is = ap demanded x.1 ∙ h.demand-is;
@@ -139,43 +139,39 @@ module _ {S : Type 0} (parts : S → ℕ) (demanded allowed : S → ℕ → ℕ 
           holder = omega (arith, ap (λ z. z.holder) x.3, h.holder);
         },
       )))
-      (λ f e x. (subst (λ y. Step plan (view s) (Release i u) y (view t)) (sym x.0) (ap view x.1), same-inside s t x.1 h))
 
   step-hold : (s t : Now S) (i u : ℕ) (a : Answer) → In s → DidHere (Hold i u) a s t → Stepped (Hold i u) a s t
   step-hold s t i u a h did =
-      by-fault (Stepped (Hold i u) a s t) (hold_fault true m limits s.state i u) did
+      by-answer (Hold i u) s t a (hold_fault true m limits s.state i u) _ did (λ r. refl) h
       (λ e x. (let f = no-fault (is_part m i) _ NoSuchNumber e in
       let b = part-bounds m i f.0 in
       let g = no-fault (grantable m limits s.state i u) _ HoldNotGranted f.1 in
       let step = granted-step m s.rows s.state start n d (allowed s.bank) limits bounds i u b.0 b.1 g.0 in (
-        subst (λ y. Step plan (view s) (Hold i u) y (view t)) (sym x.0) (subst (λ v. Step plan (view s) (Hold i u) answers.Done v) (kept-view s t (granted s.state i u) x.1 x.2 x.3) step),
+        answered (Hold i u) s t a answers.Done _ x.0 (kept-view s t (granted s.state i u) x.1 x.2 x.3) step,
         kept-inside s t h x.1 x.2 (ap (λ y. length y.backlogs) x.3 ∙ h.backlogs) (ap (λ y. length y.jobs) x.3 ∙ h.jobs) (omega (arith, ap (λ y. y.holder) x.3)),
       )))
-      (λ f e x. (subst (λ y. Step plan (view s) (Hold i u) y (view t)) (sym x.0) (ap view x.1), same-inside s t x.1 h))
 
   step-let_go : (s t : Now S) (i : ℕ) (a : Answer) → In s → DidHere (LetGo i) a s t → Stepped (LetGo i) a s t
   step-let_go s t i a h did =
-      by-fault (Stepped (LetGo i) a s t) (let_go_fault true m s.state i) did
+      by-answer (LetGo i) s t a (let_go_fault true m s.state i) _ did (λ r. refl) h
       (λ e x. (let f = no-fault (is_part m i) _ NoSuchNumber e in
       let g = no-fault (eqb s.state.holder i) _ NothingToEnd f.1 in
       let step = let_go-step m s.rows s.state (allowed s.bank) i (eqb-true s.state.holder i g.0) in (
-        subst (λ y. Step plan (view s) (LetGo i) y (view t)) (sym x.0) (subst (λ v. Step plan (view s) (LetGo i) answers.Done v) (kept-view s t (let_go s.state) x.1 x.2 x.3) step),
+        answered (LetGo i) s t a answers.Done _ x.0 (kept-view s t (let_go s.state) x.1 x.2 x.3) step,
         kept-inside s t h x.1 x.2 (ap (λ y. length y.backlogs) x.3 ∙ h.backlogs) (ap (λ y. length y.jobs) x.3 ∙ h.jobs) (omega (arith, ap (λ y. y.holder) x.3)),
       )))
-      (λ f e x. (subst (λ y. Step plan (view s) (LetGo i) y (view t)) (sym x.0) (ap view x.1), same-inside s t x.1 h))
 
   step-end : (s t : Now S) (i : ℕ) (a : Answer) → In s → DidHere (End i) a s t → Stepped (End i) a s t
   step-end s t i a h did =
-      by-fault (Stepped (End i) a s t) (end_fault true m s.state.jobs i) did
+      by-answer (End i) s t a (end_fault true m s.state.jobs i) _ did (λ r. refl) h
       (λ e x. (let f = no-fault (is_part m i) _ NoSuchNumber e in
       let b = part-bounds m i f.0 in
       let g = no-fault (leb 1 (left_of s.state.jobs i)) _ NothingToEnd f.1 in
       let step = ended-step m s.rows s.state (allowed s.bank) i b.0 (omega (arith, h.jobs)) (leb-true 1 (left_of s.state.jobs i) g.0) in
       let keeps = ended-keeps s.state i in (
-        subst (λ y. Step plan (view s) (End i) y (view t)) (sym x.0) (subst (λ v. Step plan (view s) (End i) answers.Done v) (kept-view s t (ended s.state i) x.1 x.2 x.3) step),
+        answered (End i) s t a answers.Done _ x.0 (kept-view s t (ended s.state i) x.1 x.2 x.3) step,
         kept-inside s t h x.1 x.2 (ap (λ y. length y.backlogs) x.3 ∙ keeps.0 ∙ h.backlogs) (ap (λ y. length y.jobs) x.3 ∙ keeps.1 ∙ h.jobs) (omega (arith, ap (λ y. y.holder) x.3, keeps.2, h.holder)),
       )))
-      (λ f e x. (subst (λ y. Step plan (view s) (End i) y (view t)) (sym x.0) (ap view x.1), same-inside s t x.1 h))
     where
       ended-keeps : (s : State) (i : ℕ) → (length (ended s i).backlogs ≡ length s.backlogs) × (length (ended s i).jobs ≡ length s.jobs) × ((ended s i).holder ≤ s.holder)
       ended-keeps s i = go (eqb s.holder i)
@@ -191,7 +187,7 @@ module _ {S : Type 0} (parts : S → ℕ) (demanded allowed : S → ℕ → ℕ 
       let y = steady-later m start s.rows h.steady t.rows x.2 in
       let step = tick-step n d (allowed s.bank) (allowed t.bank) m start s.rows t.rows limits bounds s.state (omega (arith, h.backlogs)) (omega (arith, h.jobs)) h.holder g.1 y.1 in
       let to : view_of (allowed t.bank) m t.rows (passed s.state got) ≡ view t = λ i. view_of (allowed t.bank) m t.rows (sym x.3 i) in (
-        subst (λ z. Step plan (view s) Tick z (view t)) (sym x.0) (subst (λ v. Step plan (view s) Tick (answers.Ticked got) v) to step),
+        answered Tick s t a (answers.Ticked got) _ x.0 to step,
         record {
           parts-are = g.0.count ∙ h.parts-are;
           demand-is = g.0.demand ∙ h.demand-is;
