@@ -1,11 +1,8 @@
 -- The calls of a run of an accepted plan lead, as the model has it, from its start to its end.
-use Rattle.std.proofs.Common.{◌≡◌, ℕ, ◌+◌, ◌-◌, ◌<◌, ◌≤◌, Bool, true, false, cond, eqb, leb, ◌&&◌, List, [], ◌∷◌, length, get_or, Some, None, Option, MatchOption, sym, refl, ap, ◌∙◌, subst, arith, length-set}
-use Rattle.std.proofs.lemmas.Bool.{leb-true, eqb-true, and_parts}
+use Rattle.std.proofs.Common.{◌≡◌, ℕ, ◌+◌, ◌-◌, ◌<◌, ◌≤◌, Bool, true, false, cond, eqb, List, [], ◌∷◌, length, get_or, Some, None, Option, MatchOption, sym, refl, ap, ◌∙◌, subst, arith, length-set}
 use Rattle.refusal.specs.declared.Refusal.{Refusal}
 use Rattle.refusal.specs.declared.Fault.{Fault}
-use Rattle.refusal.specs.declared.Fault.TheVariants.{NoSuchNumber, UnitsNotAllowed, HoldNotGranted, NothingToEnd, JobPending}
-use Rattle.source.specs.Facts.{is_part, Sound, Driven}
-use Rattle.source.proofs.Parts.{part-bounds}
+use Rattle.source.specs.Facts.{Sound, Driven}
 use Rattle.paced.specs.Pace.{largest_cost}
 use Rattle.paced.specs.Tables.{row_at, demands_of, allowances_of}
 use Rattle.paced.specs.Together.{table-sound}
@@ -19,20 +16,16 @@ use Rattle.calls.specs.declared.Call.{Call}
 use Rattle.calls.specs.declared.Call.TheVariants.{Offer, Release, Hold, LetGo, End, Tick}
 use Rattle.calls.specs.declared.Answer.{Answer}
 use Rattle.calls.specs.declared.Answer.TheVariants as answers
-use Rattle.run.specs.Faults.{offer_fault, release_fault, grantable, hold_fault, let_go_fault, end_fault}
-use Rattle.run.specs.States.{no_job, backlog_of, left_of}
+use Rattle.run.specs.Faults.{offer_fault, release_fault, hold_fault, let_go_fault, end_fault}
+use Rattle.run.specs.States.{no_job, backlog_of}
 use Rattle.run.specs.Steps.{grown, released, granted, let_go, removed, ended, due, passed}
 use Rattle.run.specs.declared.state.State.{State}
+use Rattle.run.proofs.Faults.{offer-bounds, releasable, holdable, holding, endable}
 use Rattle.guarantee.specs.Playing.{Fixed, Now, Did, Played}
 use Rattle.guarantee.specs.Views.{plan_of, view_of}
 use Rattle.guarantee.proofs.Steps.{offered-step, released-step, granted-step, let_go-step, ended-step}
 use Rattle.guarantee.proofs.Ticking.{tick-step, passed-backlogs, passed-jobs, passed-holder}
 use Rattle.guarantee.proofs.Steady.{Steady, allowances-few, steady-given, steady-later}
-
--- a fault that is not found
-no-fault : (b : Bool) (x : Option Fault) (e : Fault) → cond b x (Some e) ≡ None → (b ≡ true) × (x ≡ None)
-no-fault true x e h = (refl, h)
-no-fault false x e h = let z : ◌≡◌ {A = ℕ} 0 1 = cc in absurd (omega arith)
 
 -- what every state of the run keeps to: the bank's parts and demand, the tasks' rows, places for all, and a known holder
 pub record Inside {S : Type 0} (parts : S → ℕ) (demanded : S → ℕ → ℕ → ℕ) (n : ℕ) (d : ℕ → ℕ → ℕ) (m : ℕ) (start : List Row) (s : Now S) : Type 0 where
@@ -102,10 +95,9 @@ module _ {S : Type 0} (parts : S → ℕ) (demanded allowed : S → ℕ → ℕ 
   step-offer : (s t : Now S) (k u : ℕ) (a : Answer) → In s → DidHere (Offer k u) a s t → Stepped (Offer k u) a s t
   step-offer s t k u a h did =
       by-answer (Offer k u) s t a (offer_fault true n (allowed s.bank k 1) s.state.backlogs k u) _ did (λ r. refl) h
-      (λ e x. (let f = no-fault (is_part n k) _ NoSuchNumber e in
-      let b = part-bounds n k f.0 in
+      (λ e x. (let part = offer-bounds true n (allowed s.bank k 1) s.state.backlogs k u refl e in
       let g = driven.taken s.bank t.bank k u x.1 in
-      let off = offered-step m s.rows s.state (allowed s.bank) (allowed t.bank) k u b.0 (omega (arith, h.backlogs)) g.1 in
+      let off = offered-step m s.rows s.state (allowed s.bank) (allowed t.bank) k u part.0 (omega (arith, part.1, h.backlogs)) g.1 in
       let to : view_of (allowed t.bank) m s.rows (grown s.state k u) ≡ view t = λ i. view_of (allowed t.bank) m (sym x.2 i) (sym x.3 i) in (
         answered (Offer k u) s t a answers.Done _ x.0 to off,
         record {
@@ -121,15 +113,11 @@ module _ {S : Type 0} (parts : S → ℕ) (demanded allowed : S → ℕ → ℕ 
   step-release : (s t : Now S) (i u : ℕ) (a : Answer) → In s → DidHere (Release i u) a s t → Stepped (Release i u) a s t
   step-release s t i u a h did =
       by-answer (Release i u) s t a (release_fault true m (allowances_of m (row_at s.rows) i 1) s.state.jobs i u) _ did (λ r. refl) h
-      (λ e x. (let f = no-fault (is_part m i) _ NoSuchNumber e in
-      let b = part-bounds m i f.0 in
-      let g = no-fault (leb 1 u && leb u (allowances_of m (row_at s.rows) i 1)) _ UnitsNotAllowed f.1 in
-      let units = and_parts (leb 1 u) (leb u (allowances_of m (row_at s.rows) i 1)) g.0 in
-      let j = no-fault (eqb (left_of s.state.jobs i) 0) _ JobPending g.1 in
-      let none : left_of s.state.jobs i ≡ 0 = eqb-true (left_of s.state.jobs i) 0 j.0 in
+      (λ e x. (let most = allowances_of m (row_at s.rows) i 1 in
+      let task = releasable true m most s.state.jobs i u refl e in
       let y = steady-given m start s.rows h.steady i u t.rows x.2 in
       let to : view_of (allowed s.bank) m t.rows (released s.state i u) ≡ view t = λ k. view_of (allowed (sym x.1 k)) m t.rows (sym x.3 k) in (
-        answered (Release i u) s t a answers.Done _ x.0 to (released-step m s.rows s.state start n d (allowed s.bank) limits bounds t.rows i u b.0 b.1 (omega (arith, h.jobs)) (leb-true 1 u units.0) none y.1),
+        answered (Release i u) s t a answers.Done _ x.0 to (released-step m s.rows s.state start n d (allowed s.bank) limits bounds t.rows most i u task (omega (arith, task.last, h.jobs)) y.1),
         record {
           parts-are = ap parts x.1 ∙ h.parts-are;
           demand-is = ap demanded x.1 ∙ h.demand-is;
@@ -143,20 +131,16 @@ module _ {S : Type 0} (parts : S → ℕ) (demanded allowed : S → ℕ → ℕ 
   step-hold : (s t : Now S) (i u : ℕ) (a : Answer) → In s → DidHere (Hold i u) a s t → Stepped (Hold i u) a s t
   step-hold s t i u a h did =
       by-answer (Hold i u) s t a (hold_fault true m limits s.state i u) _ did (λ r. refl) h
-      (λ e x. (let f = no-fault (is_part m i) _ NoSuchNumber e in
-      let b = part-bounds m i f.0 in
-      let g = no-fault (grantable m limits s.state i u) _ HoldNotGranted f.1 in
-      let step = granted-step m s.rows s.state start n d (allowed s.bank) limits bounds i u b.0 b.1 g.0 in (
+      (λ e x. (let task = holdable true m limits s.state i u refl e in
+      let step = granted-step m s.rows s.state start n d (allowed s.bank) limits bounds i u task in (
         answered (Hold i u) s t a answers.Done _ x.0 (kept-view s t (granted s.state i u) x.1 x.2 x.3) step,
-        kept-inside s t h x.1 x.2 (ap (λ y. length y.backlogs) x.3 ∙ h.backlogs) (ap (λ y. length y.jobs) x.3 ∙ h.jobs) (omega (arith, ap (λ y. y.holder) x.3)),
+        kept-inside s t h x.1 x.2 (ap (λ y. length y.backlogs) x.3 ∙ h.backlogs) (ap (λ y. length y.jobs) x.3 ∙ h.jobs) (omega (arith, ap (λ y. y.holder) x.3, task.last)),
       )))
 
   step-let_go : (s t : Now S) (i : ℕ) (a : Answer) → In s → DidHere (LetGo i) a s t → Stepped (LetGo i) a s t
   step-let_go s t i a h did =
       by-answer (LetGo i) s t a (let_go_fault true m s.state i) _ did (λ r. refl) h
-      (λ e x. (let f = no-fault (is_part m i) _ NoSuchNumber e in
-      let g = no-fault (eqb s.state.holder i) _ NothingToEnd f.1 in
-      let step = let_go-step m s.rows s.state (allowed s.bank) i (eqb-true s.state.holder i g.0) in (
+      (λ e x. (let step = let_go-step m s.rows s.state (allowed s.bank) i (holding true m s.state i refl e) in (
         answered (LetGo i) s t a answers.Done _ x.0 (kept-view s t (let_go s.state) x.1 x.2 x.3) step,
         kept-inside s t h x.1 x.2 (ap (λ y. length y.backlogs) x.3 ∙ h.backlogs) (ap (λ y. length y.jobs) x.3 ∙ h.jobs) (omega (arith, ap (λ y. y.holder) x.3)),
       )))
@@ -164,10 +148,8 @@ module _ {S : Type 0} (parts : S → ℕ) (demanded allowed : S → ℕ → ℕ 
   step-end : (s t : Now S) (i : ℕ) (a : Answer) → In s → DidHere (End i) a s t → Stepped (End i) a s t
   step-end s t i a h did =
       by-answer (End i) s t a (end_fault true m s.state.jobs i) _ did (λ r. refl) h
-      (λ e x. (let f = no-fault (is_part m i) _ NoSuchNumber e in
-      let b = part-bounds m i f.0 in
-      let g = no-fault (leb 1 (left_of s.state.jobs i)) _ NothingToEnd f.1 in
-      let step = ended-step m s.rows s.state (allowed s.bank) i b.0 (omega (arith, h.jobs)) (leb-true 1 (left_of s.state.jobs i) g.0) in
+      (λ e x. (let task = endable true m s.state.jobs i refl e in
+      let step = ended-step m s.rows s.state (allowed s.bank) i task.0 (omega (arith, task.1, h.jobs)) task.2 in
       let keeps = ended-keeps s.state i in (
         answered (End i) s t a answers.Done _ x.0 (kept-view s t (ended s.state i) x.1 x.2 x.3) step,
         kept-inside s t h x.1 x.2 (ap (λ y. length y.backlogs) x.3 ∙ keeps.0 ∙ h.backlogs) (ap (λ y. length y.jobs) x.3 ∙ keeps.1 ∙ h.jobs) (omega (arith, ap (λ y. y.holder) x.3, keeps.2, h.holder)),

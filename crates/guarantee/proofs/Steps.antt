@@ -1,17 +1,17 @@
 -- The steps of a run, as the model has them: what is done to the state of a run is what the model's step says.
-use Rattle.std.proofs.Common.{◌≡◌, ℕ, ◌+◌, ◌-◌, ◌≤◌, true, cond, eqb, leb, ◌&&◌, List, length, set, sym, refl, ap, ◌∙◌, inl, inr, arith}
-use Rattle.std.proofs.lemmas.Bool.{cond-true, cond-false, cond_both, ne_eqb, eqb-true, leb-true, and_parts, cases_eq}
+use Rattle.std.proofs.Common.{◌≡◌, ℕ, ◌+◌, ◌-◌, ◌≤◌, cond, eqb, List, length, set, sym, refl, ap, ◌∙◌, inl, inr, arith}
+use Rattle.std.proofs.lemmas.Bool.{cond-true, cond-false, cond_both, ne_eqb, cases_eq}
 use Rattle.source.specs.Facts.{Taken}
 use Rattle.paced.specs.declared.row.Row.{Row}
 use Rattle.plan.specs.declared.tasks.Limit.{Limit}
 use Rattle.calls.specs.Steps.{Offered, Released, Granted, LetGone, Ended}
-use Rattle.run.specs.States.{no_job, backlog_of, left_of, age_of, hold_of, first_at}
-use Rattle.run.specs.Faults.{grantable}
+use Rattle.run.specs.States.{no_job, backlog_of, left_of, age_of}
 use Rattle.run.specs.Steps.{grown, released, granted, let_go, removed, ended}
 use Rattle.run.specs.declared.state.Job.{Job}
 use Rattle.run.specs.declared.state.State.{State}
 use Rattle.paced.specs.Tables.{row_at, allowances_of}
 use Rattle.guarantee.specs.Views.{plan_of, view_of}
+use Rattle.run.proofs.Faults.{Holdable, Releasable}
 use Rattle.run.proofs.Firsts.{first}
 use Rattle.guarantee.proofs.Numbered.{numbered-set}
 
@@ -50,34 +50,29 @@ module _ (m : ℕ) (rows : List Row) (s : State) where
       left-with : (holder held : ℕ) → holder ≡ cond (eqb s.holder i) 0 s.holder → held ≡ cond (eqb s.holder i) 0 s.held → Ended (view_of a m rows s) i (view_of a m rows (record { backlogs = s.backlogs; jobs = set s.jobs (i - 1) no_job; holder = holder; held = held }))
       left-with _ _ holder held = record { pending = pending; left = λ j. ended-left i j some within; age = λ j. ended-age i j some within; holder = holder; held = held; rest = refl }
 
-  pub granted-step : (start : List Row) (n : ℕ) (d a : ℕ → ℕ → ℕ) (limits : List Limit) (bounds : List ℕ) (i u : ℕ) → 1 ≤ i → i ≤ m → grantable m limits s i u ≡ true → Granted (plan_of n d m start limits bounds) (view_of a m rows s) i u (view_of a m rows (granted s i u))
-  granted-step start n d a limits bounds i u some last ok =
-      let p = and_parts (eqb s.holder 0) (eqb (first_at (left_of s.jobs) m) i && (leb 1 u && (leb u (hold_of limits i) && leb u (left_of s.jobs i)))) ok in
-      let q = and_parts (eqb (first_at (left_of s.jobs) m) i) (leb 1 u && (leb u (hold_of limits i) && leb u (left_of s.jobs i))) p.1 in
-      let r = and_parts (leb 1 u) (leb u (hold_of limits i) && leb u (left_of s.jobs i)) q.1 in
-      let t = and_parts (leb u (hold_of limits i)) (leb u (left_of s.jobs i)) r.1 in
-      let is : first_at (left_of s.jobs) m ≡ i = eqb-true (first_at (left_of s.jobs) m) i q.0 in
+  pub granted-step : (start : List Row) (n : ℕ) (d a : ℕ → ℕ → ℕ) (limits : List Limit) (bounds : List ℕ) (i u : ℕ) → Holdable m limits s i u → Granted (plan_of n d m start limits bounds) (view_of a m rows s) i u (view_of a m rows (granted s i u))
+  granted-step start n d a limits bounds i u task =
       record {
-        first = some;
-        last = last;
-        nobody = eqb-true s.holder 0 p.0;
-        some = leb-true 1 u r.0;
-        short = leb-true u (hold_of limits i) t.0;
-        within = leb-true u (left_of s.jobs i) t.1;
-        highest = λ j a b. (first (left_of s.jobs) m).before j a (omega arith);
+        first = task.first;
+        last = task.last;
+        nobody = task.nobody;
+        some = task.some;
+        short = task.short;
+        within = task.within;
+        highest = λ j a b. (first (left_of s.jobs) m).before j a (omega (arith, task.highest));
         rest = refl;
       }
 
-  pub released-step : (start : List Row) (n : ℕ) (d a : ℕ → ℕ → ℕ) (limits : List Limit) (bounds : List ℕ) (rows' : List Row) (i u : ℕ) → 1 ≤ i → i ≤ m → i ≤ length s.jobs → 1 ≤ u → left_of s.jobs i ≡ 0 → Taken (allowances_of m (row_at rows)) i u (allowances_of m (row_at rows')) → Released (plan_of n d m start limits bounds) (view_of a m rows s) i u (view_of a m rows' (released s i u))
-  released-step start n d a limits bounds rows' i u some last within units none taken =
+  pub released-step : (start : List Row) (n : ℕ) (d a : ℕ → ℕ → ℕ) (limits : List Limit) (bounds : List ℕ) (rows' : List Row) (most i u : ℕ) → Releasable m most s.jobs i u → i ≤ length s.jobs → Taken (allowances_of m (row_at rows)) i u (allowances_of m (row_at rows')) → Released (plan_of n d m start limits bounds) (view_of a m rows s) i u (view_of a m rows' (released s i u))
+  released-step start n d a limits bounds rows' most i u task within taken =
       let job : Job = record { left = u; age = 0 } in
       record {
-        first = some;
-        last = last;
-        some = units;
-        none = none;
+        first = task.first;
+        last = task.last;
+        some = task.some;
+        none = task.none;
         taken = taken;
-        left = λ j. numbered-set no_job (λ x. x.left) s.jobs i job j some within;
-        age = λ j. numbered-set no_job (λ x. x.age) s.jobs i job j some within;
+        left = λ j. numbered-set no_job (λ x. x.left) s.jobs i job j task.first within;
+        age = λ j. numbered-set no_job (λ x. x.age) s.jobs i job j task.first within;
         rest = refl;
       }
