@@ -1,4 +1,3 @@
-pub mod Numbered
 pub mod Steady
 pub mod Steps
 pub mod Ticking

@@ -13,7 +13,7 @@ use Rattle.paced.specs.Tables.{row_at, allowances_of}
 use Rattle.guarantee.specs.Views.{plan_of, view_of}
 use Rattle.run.proofs.Faults.{Holdable, Releasable}
 use Rattle.run.proofs.Firsts.{first}
-use Rattle.guarantee.proofs.Numbered.{numbered-set}
+use Rattle.run.proofs.Numbered.{numbered-set}
 
 module _ (m : ℕ) (rows : List Row) (s : State) where
   pub offered-step : (a a' : ℕ → ℕ → ℕ) (k u : ℕ) → 1 ≤ k → k ≤ length s.backlogs → Taken a k u a' → Offered (view_of a m rows s) k u (view_of a' m rows (grown s k u))

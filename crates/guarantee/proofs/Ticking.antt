@@ -17,7 +17,7 @@ use Rattle.run.specs.declared.state.State.{State}
 use Rattle.guarantee.specs.Views.{plan_of, view_of}
 use Rattle.run.proofs.Firsts.{first}
 use Rattle.run.proofs.Steady.{left-older}
-use Rattle.guarantee.proofs.Numbered.{numbered-set, numbered-some}
+use Rattle.run.proofs.Numbered.{numbered-set, numbered-some}
 
 older-age : (j : Job) → (older j).age ≡ cond (leb 1 j.left) (min (j.age + 1) 4294967295) 0
 older-age j = go (leb 1 j.left)

@@ -1,9 +1,8 @@
--- The first number at which a function is not 0, and what stands at numbers that count from 1.
-use Rattle.std.proofs.Common.{◌≡◌, ℕ, zero, suc, ◌+◌, ◌-◌, ◌<◌, ◌≤◌, Bool, true, false, cond, leb, List, get_or, refl, sym, ap, ◌∙◌, inl, inr, add-one, arith}
-use Rattle.std.proofs.lemmas.Bool.{cond-true, le-leb, leb-true, leb-false, cases_lt, cases_order}
+-- The first number at which a function is not 0.
+use Rattle.std.proofs.Common.{◌≡◌, ℕ, zero, suc, ◌+◌, ◌<◌, ◌≤◌, Bool, true, false, cond, leb, refl, sym, ap, ◌∙◌, inl, inr, add-one, arith}
+use Rattle.std.proofs.lemmas.Bool.{leb-true, leb-false, cases_lt, cases_order}
 use Rattle.std.proofs.lemmas.Bool.Decides.{nat_tests}
-use Rattle.run.specs.States.{no_job, backlog_of, left_of, first_at}
-use Rattle.run.specs.declared.state.Job.{Job}
+use Rattle.run.specs.States.{first_at}
 
 -- r is the first of the numbers 1 to n at which f is not 0, or 0
 pub record First (f : ℕ → ℕ) (n r : ℕ) : Type 0 where
@@ -59,9 +58,3 @@ module _ (f : ℕ → ℕ) where
 
   pub first-end : (n i : ℕ) → first_at f i ≡ 0 → i ≡ n → 0 ≡ first_at f n
   first-end n i passed e = sym passed ∙ ap (first_at f) e
-
-pub backlog-at : (xs : List ℕ) (i : ℕ) → backlog_of xs (i + 1) ≡ get_or xs i 0
-backlog-at xs i = cond-true (leb 1 (i + 1)) (get_or xs (i + 1 - 1) 0) 0 (le-leb 1 (i + 1) (omega arith)) ∙ ap (λ k. get_or xs k 0) (omega arith)
-
-pub left-at : (jobs : List Job) (i : ℕ) → left_of jobs (i + 1) ≡ (get_or jobs i no_job).left
-left-at jobs i = cond-true (leb 1 (i + 1)) (get_or jobs (i + 1 - 1) no_job).left 0 (le-leb 1 (i + 1) (omega arith)) ∙ ap (λ k. (get_or jobs k no_job).left) (omega arith)

@@ -1,9 +1,9 @@
 -- What every state of a run keeps, call by call.
-use Rattle.std.proofs.Common.{◌≡◌, ℕ, ◌+◌, ◌-◌, ◌≤◌, min, Bool, true, false, cond, ◌&&◌, leb, List, map, length, get_or, set, ◌≢◌, refl, sym, ap, ◌∙◌, arith, length-set, get_or-set_same, get_or-set_other}
+use Rattle.std.proofs.Common.{◌≡◌, ℕ, ◌+◌, ◌-◌, ◌≤◌, min, Bool, true, false, cond, ◌&&◌, leb, List, map, length, get_or, set, ◌≢◌, refl, sym, ap, ◌∙◌, arith, length-set}
 use Rattle.std.specs.List.{sum}
 use Rattle.std.specs.Prelude.{nat_eq}
 use Rattle.std.proofs.Math.ListN.{get_or-map}
-use Rattle.std.proofs.lemmas.Bool.{cond-true, cond_both, le-leb, leb-true, leb-false, and_parts}
+use Rattle.std.proofs.lemmas.Bool.{cond_both, leb-true, leb-false, and_parts}
 use Rattle.std.proofs.lemmas.Bool.Decides.{nat_tests}
 use Rattle.std.proofs.lemmas.List.{length-map}
 use Rattle.std.proofs.lemmas.List.Sums.{sum_by-set}
@@ -14,6 +14,7 @@ use Rattle.run.specs.States.{no_job, backlog_of, left_of, hold_of}
 use Rattle.run.specs.Steps.{released, granted, let_go, removed, ended, worked, part_served, task_served, served, older, aged, settled, passed, Placed}
 use Rattle.run.specs.declared.state.Job.{Job}
 use Rattle.run.specs.declared.state.State.{State}
+use Rattle.run.proofs.Numbered.{numbered-some, numbered-same, numbered-other}
 
 -- with n tasks of these limits
 pub record Steady (limits : List Limit) (n : ℕ) (s : State) : Type 0 where
@@ -26,19 +27,6 @@ pub record Steady (limits : List Limit) (n : ℕ) (s : State) : Type 0 where
 
 abbrev pub Lasting : State → Type 0
 Lasting s = 1 ≤ s.holder → 1 ≤ s.held
-
-pub left-other : (jobs : List Job) (i j : ℕ) (v : Job) → 1 ≤ i → (j ≢ i) → left_of (set jobs (i - 1) v) j ≡ left_of jobs j
-left-other jobs i j v low ne = go (leb 1 j) refl
-  where
-    go : (b : Bool) → leb 1 j ≡ b → cond b (get_or (set jobs (i - 1) v) (j - 1) no_job).left 0 ≡ cond b (get_or jobs (j - 1) no_job).left 0
-    go true e = ap (λ x. x.left) (get_or-set_other jobs (i - 1) (j - 1) v no_job (λ same. ne (let some : 1 ≤ j = leb-true 1 j e in omega arith)))
-    go false e = refl
-
-pub left_same : (jobs : List Job) (i : ℕ) (v : Job) → 1 ≤ i → i ≤ length jobs → left_of (set jobs (i - 1) v) i ≡ v.left
-left_same jobs i v low high = cond-true (leb 1 i) (get_or (set jobs (i - 1) v) (i - 1) no_job).left 0 (le-leb 1 i low) ∙ ap (λ x. x.left) (get_or-set_same jobs (i - 1) v no_job (omega arith))
-
-left-of : (jobs : List Job) (i : ℕ) → 1 ≤ i → left_of jobs i ≡ (get_or jobs (i - 1) no_job).left
-left-of jobs i low = cond-true (leb 1 i) (get_or jobs (i - 1) no_job).left 0 (le-leb 1 i low)
 
 older-left : (j : Job) → (older j).left ≡ j.left
 older-left j = cond_both (leb 1 j.left) (record { left = j.left; age = min (j.age + 1) 4294967295 }) no_job (λ k. k.left ≡ j.left) (λ e. refl) (λ e. let none = leb-false 1 j.left e in omega arith)
@@ -56,7 +44,7 @@ module _ (limits : List Limit) (n : ℕ) (s : State) (steady : Steady limits n s
 
   -- the job of a task that does not hold is written
   pub written-steady : (i : ℕ) (v : Job) → 1 ≤ i → (s.holder ≢ i) → Steady limits n (record { backlogs = s.backlogs; jobs = set s.jobs (i - 1) v; holder = s.holder; held = s.held })
-  written-steady i v low other = record { backlogs = steady.backlogs; jobs = length-set s.jobs (i - 1) v ∙ steady.jobs; waiting = steady.waiting; known = steady.known; within = omega (arith, steady.within, left-other s.jobs i s.holder v low other); short = steady.short }
+  written-steady i v low other = record { backlogs = steady.backlogs; jobs = length-set s.jobs (i - 1) v ∙ steady.jobs; waiting = steady.waiting; known = steady.known; within = omega (arith, steady.within, numbered-other no_job (λ x. x.left) s.jobs i v s.holder low other); short = steady.short }
 
   -- a task that has no job does not hold
   pub idle-other : Lasting s → (i : ℕ) → 1 ≤ i → left_of s.jobs i ≡ 0 → s.holder ≢ i
@@ -78,7 +66,7 @@ module _ (limits : List Limit) (n : ℕ) (s : State) (steady : Steady limits n s
   part_served-steady k low high =
       let b = s.backlogs in
       let y = backlog_of b k - 1 in
-      let there : backlog_of b k ≡ get_or b (k - 1) 0 = cond-true (leb 1 k) (get_or b (k - 1) 0) 0 (le-leb 1 k low) in
+      let there : backlog_of b k ≡ get_or b (k - 1) 0 = numbered-some 0 (λ x. x) b k low in
       let grows : sum (set b (k - 1) y) + get_or b (k - 1) 0 ≡ sum b + y = sum_by-set (λ x. x) b (k - 1) y 0 (omega (arith, steady.backlogs)) in
       record { backlogs = length-set b (k - 1) y ∙ steady.backlogs; jobs = steady.jobs; waiting = omega (arith, steady.waiting); known = steady.known; within = steady.within; short = steady.short }
 
@@ -92,7 +80,7 @@ module _ (limits : List Limit) (n : ℕ) (s : State) (steady : Steady limits n s
       jobs' = set s.jobs (i - 1) v
 
       here : left_of jobs' i ≡ left_of s.jobs i - 1
-      here = left_same s.jobs i v low (omega (arith, steady.jobs)) ∙ ap (λ x. x - 1) (sym (left-of s.jobs i low))
+      here = numbered-same no_job (λ x. x.left) s.jobs i v low (omega (arith, steady.jobs)) ∙ ap (λ x. x - 1) (sym (numbered-some no_job (λ x. x.left) s.jobs i low))
 
       go : (b : Bool) → nat_eq s.holder i ≡ b → Steady limits n (record { backlogs = s.backlogs; jobs = jobs'; holder = s.holder; held = cond b (s.held - 1) s.held })
       go true e =
