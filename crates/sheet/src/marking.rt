@@ -1,5 +1,5 @@
 // What is told of a sheet: loads, bounds and deadlines, or a refusal.
-ghost use Rattle.std.specs.Prelude.{◌≡◌, ℕ, ◌+◌, ◌<◌, List, length, MatchResult, slice_index};
+ghost use Rattle.std.specs.Prelude.{◌≡◌, ℕ, ◌+◌, ◌-◌, ◌<◌, List, length, MatchResult, slice_index};
 ghost use Rattle.paced.specs.Loads.{row_load};
 ghost use Rattle.paced.specs.Tables.{row_at};
 ghost use Rattle.plan.specs.Limits.{limit_at};
@@ -17,17 +17,23 @@ use refusal::Refusal;
 use source::Source;
 use source::pair::Pair;
 
+// The line of a task: the tasks stand on the last lines of the sheet.
+fn line_of(finished: &Finished, task: u32) -> u32
+    ensures { result ≡ finished.now.lines - (finished.now.draft.tasks.parts.count - task) }
+{
+    let below = finished.draft.tasks.count().saturating_sub(task);
+    finished.lines.saturating_sub(below)
+}
+
 // The bounds of the tasks by the judge, or its refusal with the line of the task.
 fn judged(finished: &Finished) -> Result<[u32; 16], Refusal>
     ensures { (v : Verdict) × (bounds : List ℕ) × JudgedPlan (view finished.now.draft) v bounds × Answered (record { plan = view finished.now.draft; lines = finished.now.lines }) v bounds result }
 {
     let draft = finished.draft;
-    let count = draft.tasks.count();
     let bank = Pair::new(draft.rack, draft.schedule);
     let judged = OpenPlan::with_tasks(bank, draft.tasks).judge();
     if let Err(refusal) = judged.verdict().outcome() {
-        let below = count.saturating_sub(refusal.task);
-        return Err(refusal.on_line(finished.lines.saturating_sub(below)));
+        return Err(refusal.on_line(line_of(finished, refusal.task)));
     }
     let mut bounds = [0; 16];
     let _ = judged.bounds(&mut bounds);

@@ -16,7 +16,7 @@ returns-in-Err c =
     let bounds = c.judge-judged.result.bounds in
     let e = c.in-Err.refusal in
     let o : Err e ≡ outcome_of v = c.in-Err.ensures ∙ ap outcome_of c.verdict.ensures in
-    let line : c.saturating_sub.result ≡ s.lines - (s.plan.tasks - e.task) = c.saturating_sub.ensures ∙ ap (λ k. s.lines - k) (c.saturating_sub-below.ensures ∙ ap (λ k. k - e.task) c.count-count.ensures) in (
+    let line : c.line_of.result ≡ s.lines - (s.plan.tasks - e.task) = c.line_of.ensures in (
       v,
       bounds,
       same-judged q.bank.right d.schedule q.bank.left d.rack q.tasks d.tasks v bounds (ap (λ b. b.right) c.with_tasks.ensures.bank ∙ c.new-bank.ensures.right) (ap (λ b. b.left) c.with_tasks.ensures.bank ∙ c.new-bank.ensures.left) c.with_tasks.ensures.tasks c.judge-judged.ensures.judged,
