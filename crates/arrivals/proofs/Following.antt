@@ -6,34 +6,34 @@ use Rattle.std.proofs.lemmas.List.{append-nil, length_push, get_or_append_left}
 use Rattle.std.proofs.lemmas.Bool.{cases_lt}
 use Rattle.std.proofs.lemmas.Bool.Decides.{nat_tests, Decides-like}
 use Rattle.cycles.specs.Round.{next}
-use Rattle.cycles.proofs.Rounds.{next-on, next_last}
+use Rattle.cycles.proofs.Rounds.{next_on, next_last}
 use Rattle.paced.specs.Makes.{fault_of, fresh}
 use Rattle.paced.specs.Pace.{allowance, given, Fit}
 use Rattle.paced.specs.declared.row.Row.{Row}
-use Rattle.paced.specs.Rows.{allowance-one, given-fit, later-fit}
-use Rattle.paced.proofs.Makings.{fresh-fit}
+use Rattle.paced.specs.Rows.{allowance_one, given_fit, later_fit}
+use Rattle.paced.proofs.Makings.{fresh_fit}
 use Rattle.arrivals.specs.declared.Step.{Step}
 use Rattle.arrivals.specs.declared.Step.TheVariants.{Tick, Offer}
 use Rattle.arrivals.specs.Steps.{takes, played}
 use Rattle.arrivals.specs.Times.{time, times, due, Answered, AllAnswered}
-use Rattle.arrivals.proofs.Playing.{length-played}
-use Rattle.arrivals.proofs.Explaining.{Next, next-none, next-tick, next-taken, explained-from, from-explained}
+use Rattle.arrivals.proofs.Playing.{length_played}
+use Rattle.arrivals.proofs.Explaining.{Next, next_none, next_tick, next_taken, explained_from, from_explained}
 
 -- what the test of an offer says of level v and jitter j: d is the cost that is due, and c the allowance for one tick
-within-due : (u c d v j e t : ℕ) → c ≡ cond (leb v j) d 0 → v ≡ e + j - t → 1 ≤ u → u ≤ d → Decides (leb 1 u && leb u c) (e ≤ t)
-within-due u c d v j e t c-is v-is one most = ((λ h. grind (arith, nat_tests)), (λ h. grind (arith, nat_tests)))
+within_due : (u c d v j e t : ℕ) → c ≡ cond (leb v j) d 0 → v ≡ e + j - t → 1 ≤ u → u ≤ d → Decides (leb 1 u && leb u c) (e ≤ t)
+within_due u c d v j e t c_is v_is one most = ((λ h. grind (arith, nat_tests)), (λ h. grind (arith, nat_tests)))
 
-outside-due : (u c d v j : ℕ) → c ≡ cond (leb v j) d 0 → (1 ≤ u → u ≤ d → ⊥) → (leb 1 u && leb u c) ≡ false
-outside-due u c d v j c-is out = grind (arith, nat_tests)
+outside_due : (u c d v j : ℕ) → c ≡ cond (leb v j) d 0 → (1 ≤ u → u ≤ d → ⊥) → (leb 1 u && leb u c) ≡ false
+outside_due u c d v j c_is out = grind (arith, nat_tests)
 
-low-level : (u c d v j : ℕ) → c ≡ cond (leb v j) d 0 → (leb 1 u && leb u c) ≡ true → v ≤ j
-low-level u c d v j c-is took = grind (arith, nat_tests)
+low_level : (u c d v j : ℕ) → c ≡ cond (leb v j) d 0 → (leb 1 u && leb u c) ≡ true → v ≤ j
+low_level u c d v j c_is took = grind (arith, nat_tests)
 
 -- the place after that of the m-th cost is that of the next
-next-mod : (n m : ℕ) → 0 < n → next n (m % n) ≡ suc m % n
-next-mod n m some =
+next_mod : (n m : ℕ) → 0 < n → next n (m % n) ≡ suc m % n
+next_mod n m some =
     elim (cases_lt (suc (m % n)) n) [
-      | inl l ↦ next-on n (m % n) l ∙ sym (suc-mod m n ∙ mod-eq_of_lt l)
+      | inl l ↦ next_on n (m % n) l ∙ sym (suc-mod m n ∙ mod-eq_of_lt l)
       | inr g ↦ (let end : suc (m % n) ≡ n = omega (arith, mod-lt m some) in next_last n (m % n) g ∙ sym (suc-mod m n ∙ ap (λ k. k % n) end ∙ mod_self n))
     ]
 
@@ -45,13 +45,13 @@ module _ (T J : ℕ) (costs : List ℕ) where
   -- it has taken offers at the times ts, it is time t, and the next arrival can be at e
   pub record Held (ts : List ℕ) (t v f : ℕ) : Type 0 where
     pub soonest : ℕ
-    pub next-at : Next T J ts t soonest
-    pub level-is : v ≡ soonest + J - t
+    pub next_at : Next T J ts t soonest
+    pub level_is : v ≡ soonest + J - t
     pub place_is : f ≡ length ts % length costs
     pub fit : Fit (state v f)
 
   pub held_first : fault_of T J costs ≡ None → Held [] J 0 0
-  held_first right = record { soonest = 0; next-at = next-none T J; level-is = omega arith; place_is = sym (zero-mod (length costs)); fit = fresh-fit T J costs right }
+  held_first right = record { soonest = 0; next_at = next_none T J; level_is = omega arith; place_is = sym (zero-mod (length costs)); fit = fresh_fit T J costs right }
 
   module _ (ts : List ℕ) (t v f : ℕ) (h : Held ts t v f) where
     small : J < T
@@ -59,61 +59,61 @@ module _ (T J : ℕ) (costs : List ℕ) where
 
     allows : allowance (state v f) 1 ≡ cond (leb v J) (due costs (length ts)) 0
     allows =
-        allowance-one (state v f) h.fit
+        allowance_one (state v f) h.fit
         ∙ ap (λ x. cond (leb v J) x 0) (get_or_append_left costs (replicate (8 - length costs) 0) 0 f h.fit.places.2 ∙ ap (λ k. get_or costs k 0) h.place_is)
 
     low : (u : ℕ) → takes (state v f) u ≡ true → v ≤ J
-    low u took = low-level u (allowance (state v f) 1) (due costs (length ts)) v J allows took
+    low u took = low_level u (allowance (state v f) 1) (due costs (length ts)) v J allows took
 
-    pub held-tick : Held ts (t + 1) (v - 1) f
-    held-tick =
+    pub held_tick : Held ts (t + 1) (v - 1) f
+    held_tick =
         record {
           soonest = h.soonest;
-          next-at = next-tick T J ts t h.soonest small h.next-at;
-          level-is = omega (arith, h.level-is);
+          next_at = next_tick T J ts t h.soonest small h.next_at;
+          level_is = omega (arith, h.level_is);
           place_is = h.place_is;
-          fit = later-fit (state v f) h.fit;
+          fit = later_fit (state v f) h.fit;
         }
 
-    pub held-taken : (u : ℕ) → takes (state v f) u ≡ true → Held (ts ++ t ∷ []) t (v + T) (next (length costs) f)
-    held-taken u took =
+    pub held_taken : (u : ℕ) → takes (state v f) u ≡ true → Held (ts ++ t ∷ []) t (v + T) (next (length costs) f)
+    held_taken u took =
         record {
           soonest = max h.soonest (t - J) + T;
-          next-at = next-taken T J ts t h.soonest small h.next-at (omega (arith, h.level-is, low u took));
-          level-is = omega (arith, h.level-is, low u took);
-          place_is = ap (next (length costs)) h.place_is ∙ next-mod (length costs) (length ts) (omega (arith, h.fit.places)) ∙ ap (λ k. k % length costs) (sym (length_push ts t ∙ add-one (length ts)));
-          fit = given-fit (state v f) h.fit (low u took);
+          next_at = next_taken T J ts t h.soonest small h.next_at (omega (arith, h.level_is, low u took));
+          level_is = omega (arith, h.level_is, low u took);
+          place_is = ap (next (length costs)) h.place_is ∙ next_mod (length costs) (length ts) (omega (arith, h.fit.places)) ∙ ap (λ k. k % length costs) (sym (length_push ts t ∙ add-one (length ts)));
+          fit = given_fit (state v f) h.fit (low u took);
         }
 
-    pub answered-now : (u : ℕ) → Answered T J costs ts t u (takes (state v f) u)
-    answered-now u =
+    pub answered_now : (u : ℕ) → Answered T J costs ts t u (takes (state v f) u)
+    answered_now u =
         record {
           explained = λ one most.
-              Decides-like (takes (state v f) u) (explained-from T J ts t h.soonest small h.next-at) (from-explained T J ts t h.soonest small h.next-at)
-              (within-due u (allowance (state v f) 1) (due costs (length ts)) v J h.soonest t allows h.level-is one most);
-          outside = outside-due u (allowance (state v f) 1) (due costs (length ts)) v J allows;
+              Decides-like (takes (state v f) u) (explained_from T J ts t h.soonest small h.next_at) (from_explained T J ts t h.soonest small h.next_at)
+              (within_due u (allowance (state v f) 1) (due costs (length ts)) v J h.soonest t allows h.level_is one most);
+          outside = outside_due u (allowance (state v f) 1) (due costs (length ts)) v J allows;
         }
 
   -- every offer on the way is answered rightly, by what came before it
-  pub all-answered : (ts : List ℕ) (t v f : ℕ) → Held ts t v f → (ss : List Step) (bs : List Bool) (i u : ℕ) → i < length ss → i < length bs → get_or ss i Tick ≡ Offer u → Answered T J costs (ts ++ times t (take i ss) (take i (played (state v f) ss bs))) (time t (take i ss)) u (get_or (played (state v f) ss bs) i false)
-  all-answered ts t v f h [] bs i u l m e = absurd (omega arith)
-  all-answered ts t v f h (s ∷ ss) [] i u l m e = absurd (omega arith)
-  all-answered ts t v f h (Tick ∷ ss) (b ∷ bs) zero u l m e = let z : ◌≡◌ {A = ℕ} 0 1 = cc in absurd (omega arith)
-  all-answered ts t v f h (Offer w ∷ ss) (b ∷ bs) zero u l m e =
+  pub all_answered : (ts : List ℕ) (t v f : ℕ) → Held ts t v f → (ss : List Step) (bs : List Bool) (i u : ℕ) → i < length ss → i < length bs → get_or ss i Tick ≡ Offer u → Answered T J costs (ts ++ times t (take i ss) (take i (played (state v f) ss bs))) (time t (take i ss)) u (get_or (played (state v f) ss bs) i false)
+  all_answered ts t v f h [] bs i u l m e = absurd (omega arith)
+  all_answered ts t v f h (s ∷ ss) [] i u l m e = absurd (omega arith)
+  all_answered ts t v f h (Tick ∷ ss) (b ∷ bs) zero u l m e = let z : ◌≡◌ {A = ℕ} 0 1 = cc in absurd (omega arith)
+  all_answered ts t v f h (Offer w ∷ ss) (b ∷ bs) zero u l m e =
       let same : w ≡ u = cc in
-      let now : Answered T J costs ts t w (takes (state v f) w) = answered-now ts t v f h w in
+      let now : Answered T J costs ts t w (takes (state v f) w) = answered_now ts t v f h w in
       subst (λ xs. Answered T J costs xs t u (takes (state v f) w)) (sym (append-nil ts)) (subst (λ x. Answered T J costs ts t x (takes (state v f) w)) same now)
-  all-answered ts t v f h (Tick ∷ ss) (b ∷ bs) (suc i) u l m e = all-answered ts (t + 1) (v - 1) f (held-tick ts t v f h) ss bs i u (omega arith) (omega arith) e
-  all-answered ts t v f h (Offer w ∷ ss) (b ∷ bs) (suc i) u l m e =
+  all_answered ts t v f h (Tick ∷ ss) (b ∷ bs) (suc i) u l m e = all_answered ts (t + 1) (v - 1) f (held_tick ts t v f h) ss bs i u (omega arith) (omega arith) e
+  all_answered ts t v f h (Offer w ∷ ss) (b ∷ bs) (suc i) u l m e =
       elim (takes (state v f) w)
       as (λ y. takes (state v f) w ≡ y → Answered T J costs (ts ++ times t (Offer w ∷ take i ss) (y ∷ take i (played (cond y (given (state v f)) (state v f)) ss bs))) (time t (take i ss)) u (get_or (played (cond y (given (state v f)) (state v f)) ss bs) i false)) [
         | true ↦ (λ took.
             subst (λ xs. Answered T J costs xs (time t (take i ss)) u (get_or (played (given (state v f)) ss bs) i false)) (append_assoc ts (t ∷ []) (times t (take i ss) (take i (played (given (state v f)) ss bs))))
-            (all-answered (ts ++ t ∷ []) t (v + T) (next (length costs) f) (held-taken ts t v f h w took) ss bs i u (omega arith) (omega arith) e))
-        | false ↦ (λ _. all-answered ts t v f h ss bs i u (omega arith) (omega arith) e)
+            (all_answered (ts ++ t ∷ []) t (v + T) (next (length costs) f) (held_taken ts t v f h w took) ss bs i u (omega arith) (omega arith) e))
+        | false ↦ (λ _. all_answered ts t v f h ss bs i u (omega arith) (omega arith) e)
       ]
       refl
 
 -- a part from its start on
-pub played-answered : (T J : ℕ) (costs : List ℕ) (ss : List Step) (bs : List Bool) → fault_of T J costs ≡ None → AllAnswered T J costs ss (played (fresh T J costs) ss bs)
-played-answered T J costs ss bs right i u l m e = all-answered T J costs [] J 0 0 (held_first T J costs right) ss bs i u l (omega (arith, length-played (fresh T J costs) ss bs)) e
+pub played_answered : (T J : ℕ) (costs : List ℕ) (ss : List Step) (bs : List Bool) → fault_of T J costs ≡ None → AllAnswered T J costs ss (played (fresh T J costs) ss bs)
+played_answered T J costs ss bs right i u l m e = all_answered T J costs [] J 0 0 (held_first T J costs right) ss bs i u l (omega (arith, length_played (fresh T J costs) ss bs)) e

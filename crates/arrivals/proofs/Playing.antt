@@ -6,39 +6,39 @@ use Rattle.paced.specs.declared.row.Row.{Row}
 use Rattle.arrivals.specs.declared.Step.{Step}
 use Rattle.arrivals.specs.Steps.{answer, after, played, moved}
 
-pub length-played : (r : Row) (ss : List Step) (bs : List Bool) → length (played r ss bs) ≡ length bs
-length-played r [] bs = refl
-length-played r (s ∷ ss) [] = refl
-length-played r (s ∷ ss) (b ∷ bs) = ap suc (length-played (after r s) ss bs)
+pub length_played : (r : Row) (ss : List Step) (bs : List Bool) → length (played r ss bs) ≡ length bs
+length_played r [] bs = refl
+length_played r (s ∷ ss) [] = refl
+length_played r (s ∷ ss) (b ∷ bs) = ap suc (length_played (after r s) ss bs)
 
 -- with i steps made, the answers bs so far, and the part at r
-abbrev pub answersAt : Row → List Step → List Bool → ℕ → List Bool
-answersAt r ss bs i = take i bs ++ played r (drop i ss) (drop i bs)
+abbrev pub answers_at : Row → List Step → List Bool → ℕ → List Bool
+answers_at r ss bs i = take i bs ++ played r (drop i ss) (drop i bs)
 
 abbrev pub end_at : Row → List Step → List Bool → ℕ → Row
 end_at r ss bs i = moved r (drop i ss) (drop i bs)
 
 -- one step more, the one at i, where the default d does not matter
 module _ (r : Row) (ss : List Step) (bs : List Bool) (i : ℕ) (d : Step) (here : i < length ss) (free : i < length bs) where
-  step-here : drop i ss ≡ get_or ss i d ∷ drop (i + 1) ss
-  step-here = drop_more ss i d here
+  step_here : drop i ss ≡ get_or ss i d ∷ drop (i + 1) ss
+  step_here = drop_more ss i d here
 
   place_here : drop i bs ≡ get_or bs i false ∷ drop (i + 1) bs
   place_here = drop_more bs i false free
 
-  rest-free : (b : Bool) → drop (i + 1) (set bs i b) ≡ drop (i + 1) bs
-  rest-free b = drop-set-lt (i + 1) bs i b (omega arith)
+  rest_free : (b : Bool) → drop (i + 1) (set bs i b) ≡ drop (i + 1) bs
+  rest_free b = drop-set-lt (i + 1) bs i b (omega arith)
 
-  pub answers-more : answersAt r ss bs i ≡ answersAt (after r (get_or ss i d)) ss (set bs i (answer r (get_or ss i d))) (i + 1)
-  answers-more =
-      (λ k. take i bs ++ played r (step-here k) (place_here k))
+  pub answers_more : answers_at r ss bs i ≡ answers_at (after r (get_or ss i d)) ss (set bs i (answer r (get_or ss i d))) (i + 1)
+  answers_more =
+      (λ k. take i bs ++ played r (step_here k) (place_here k))
       ∙ sym (append_assoc (take i bs) (answer r (get_or ss i d) ∷ []) (played (after r (get_or ss i d)) (drop (i + 1) ss) (drop (i + 1) bs)))
-      ∙ (λ k. sym (take_more_set bs i (answer r (get_or ss i d)) free) k ++ played (after r (get_or ss i d)) (drop (i + 1) ss) (sym (rest-free (answer r (get_or ss i d))) k))
+      ∙ (λ k. sym (take_more_set bs i (answer r (get_or ss i d)) free) k ++ played (after r (get_or ss i d)) (drop (i + 1) ss) (sym (rest_free (answer r (get_or ss i d))) k))
 
   pub end_more : end_at r ss bs i ≡ end_at (after r (get_or ss i d)) ss (set bs i (answer r (get_or ss i d))) (i + 1)
   end_more =
-      (λ k. moved r (step-here k) (place_here k))
-      ∙ (λ k. moved (after r (get_or ss i d)) (drop (i + 1) ss) (sym (rest-free (answer r (get_or ss i d))) k))
+      (λ k. moved r (step_here k) (place_here k))
+      ∙ (λ k. moved (after r (get_or ss i d)) (drop (i + 1) ss) (sym (rest_free (answer r (get_or ss i d))) k))
 
 -- at the end, where steps or places are used up
 no_place : (r : Row) (ss : List Step) → played r ss [] ≡ []
@@ -50,20 +50,20 @@ no_move r [] = refl
 no_move r (s ∷ ss) = refl
 
 module _ (r : Row) (ss : List Step) (bs : List Bool) (i : ℕ) (over : min (length ss) (length bs) ≤ i) where
-  pub answers-all : answersAt r ss bs i ≡ bs
-  answers-all = elim (cases_lt i (length ss)) [ inl l ↦ no-places (omega arith) | inr g ↦ no_steps g ]
+  pub answers_all : answers_at r ss bs i ≡ bs
+  answers_all = elim (cases_lt i (length ss)) [ inl l ↦ no_places (omega arith) | inr g ↦ no_steps g ]
     where
-      no_steps : length ss ≤ i → answersAt r ss bs i ≡ bs
+      no_steps : length ss ≤ i → answers_at r ss bs i ≡ bs
       no_steps h = ap (λ xs. take i bs ++ played r xs (drop i bs)) (drop_all i ss h) ∙ take-append-drop i bs
 
-      no-places : length bs ≤ i → answersAt r ss bs i ≡ bs
-      no-places h = (λ k. take_all i bs h k ++ played r (drop i ss) (drop_all i bs h k)) ∙ ap (λ xs. bs ++ xs) (no_place r (drop i ss)) ∙ append-nil bs
+      no_places : length bs ≤ i → answers_at r ss bs i ≡ bs
+      no_places h = (λ k. take_all i bs h k ++ played r (drop i ss) (drop_all i bs h k)) ∙ ap (λ xs. bs ++ xs) (no_place r (drop i ss)) ∙ append-nil bs
 
-  pub end-all : end_at r ss bs i ≡ r
-  end-all = elim (cases_lt i (length ss)) [ inl l ↦ no-places (omega arith) | inr g ↦ no_steps g ]
+  pub end_all : end_at r ss bs i ≡ r
+  end_all = elim (cases_lt i (length ss)) [ inl l ↦ no_places (omega arith) | inr g ↦ no_steps g ]
     where
       no_steps : length ss ≤ i → end_at r ss bs i ≡ r
       no_steps h = ap (λ xs. moved r xs (drop i bs)) (drop_all i ss h)
 
-      no-places : length bs ≤ i → end_at r ss bs i ≡ r
-      no-places h = ap (moved r (drop i ss)) (drop_all i bs h) ∙ no_move r (drop i ss)
+      no_places : length bs ≤ i → end_at r ss bs i ≡ r
+      no_places h = ap (moved r (drop i ss)) (drop_all i bs h) ∙ no_move r (drop i ss)

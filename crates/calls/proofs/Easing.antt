@@ -5,7 +5,7 @@ use Rattle.std.proofs.lemmas.Bool.{cases_eq, cases_lt, cond-false, ne_eqb}
 use Rattle.source.specs.Facts.{Taken}
 use Rattle.calls.specs.States.{upto, Plan, State}
 use Rattle.calls.specs.Steps.{Offered, Released, Granted, LetGone, Ended}
-use Rattle.calls.proofs.Totals.{upto-zero}
+use Rattle.calls.proofs.Totals.{upto_zero}
 use Rattle.calls.proofs.Facts.{below, Holding, Sane}
 
 pub record Eased (p : Plan) (s t : State) : Type 0 where
@@ -17,13 +17,13 @@ pub record Eased (p : Plan) (s t : State) : Type 0 where
   pub sane : Sane p t
 
 -- a hold stays right where its units are still within those left of its job
-holding-stays : (p : Plan) (left left' : ℕ → ℕ) (x u : ℕ) → (1 ≤ u → u ≤ left x → u ≤ left' x) → Holding p left x u → Holding p left' x u
-holding-stays p left left' x u h (inl none) = inl none
-holding-stays p left left' x u h (inr some) = inr (some.0, some.1, some.2, some.3, h some.2 some.4)
+holding_stays : (p : Plan) (left left' : ℕ → ℕ) (x u : ℕ) → (1 ≤ u → u ≤ left x → u ≤ left' x) → Holding p left x u → Holding p left' x u
+holding_stays p left left' x u h (inl none) = inl none
+holding_stays p left left' x u h (inr some) = inr (some.0, some.1, some.2, some.3, h some.2 some.4)
 
 -- what one taken offer makes of a function of the number of a part, with u put where it was taken
-taken-at : (a a' : ℕ → ℕ → ℕ) (f f' : ℕ → ℕ) (k u : ℕ) → Taken a k u a' → ((j : ℕ) → f' j ≡ cond (eqb j k) (f j + u) (f j)) → (j m : ℕ) → 1 ≤ m → f' j + a' j m ≤ f j + a j m
-taken-at a a' f f' k u taken put j m h =
+taken_at : (a a' : ℕ → ℕ → ℕ) (f f' : ℕ → ℕ) (k u : ℕ) → Taken a k u a' → ((j : ℕ) → f' j ≡ cond (eqb j k) (f j + u) (f j)) → (j m : ℕ) → 1 ≤ m → f' j + a' j m ≤ f j + a j m
+taken_at a a' f f' k u taken put j m h =
     elim (cases_eq j k) [
       | inl e ↦ (
           let w : u + a' k m ≤ a k m = taken.within m h in
@@ -37,8 +37,8 @@ taken-at a a' f f' k u taken put j m h =
           grind (arith, nat_tests))
     ]
 
-taken-falls : (a a' : ℕ → ℕ → ℕ) (k u : ℕ) → Taken a k u a' → (j m : ℕ) → 1 ≤ m → a' j m ≤ a j m
-taken-falls a a' k u taken j m h =
+taken_falls : (a a' : ℕ → ℕ → ℕ) (k u : ℕ) → Taken a k u a' → (j m : ℕ) → 1 ≤ m → a' j m ≤ a j m
+taken_falls a a' k u taken j m h =
     elim (cases_eq j k) [
       | inl e ↦ (
           let w : u + a' k m ≤ a k m = taken.within m h in
@@ -48,8 +48,8 @@ taken-falls a a' k u taken j m h =
       | inr ne ↦ (let w : a' j m ≡ a j m = taken.others j m ne in omega arith)
     ]
 
-pub eased-same : (p : Plan) (s t : State) → Sane p s → t ≡ s → Eased p s t
-eased-same p s t sane e = subst (λ x. Eased p s x) (sym e) (record {
+pub eased_same : (p : Plan) (s t : State) → Sane p s → t ≡ s → Eased p s t
+eased_same p s t sane e = subst (λ x. Eased p s x) (sym e) (record {
   flood = λ k m h. omega arith;
   ahead = λ i m h. omega arith;
   coming = λ i m h. omega arith;
@@ -58,9 +58,9 @@ eased-same p s t sane e = subst (λ x. Eased p s x) (sym e) (record {
   sane = sane;
 })
 
-pub eased-offered : (p : Plan) (s t : State) (k u : ℕ) → Sane p s → Offered s k u t → Eased p s t
-eased-offered p s t k u sane h = subst (λ x. Eased p s x) (sym h.rest) (record {
-  flood = taken-at s.bank t.bank s.backlog t.backlog k u h.taken h.backlog;
+pub eased_offered : (p : Plan) (s t : State) (k u : ℕ) → Sane p s → Offered s k u t → Eased p s t
+eased_offered p s t k u sane h = subst (λ x. Eased p s x) (sym h.rest) (record {
+  flood = taken_at s.bank t.bank s.backlog t.backlog k u h.taken h.backlog;
   ahead = λ i m h. omega arith;
   coming = λ i m h. omega arith;
   age = λ i. omega arith;
@@ -69,8 +69,8 @@ eased-offered p s t k u sane h = subst (λ x. Eased p s x) (sym h.rest) (record 
 })
 
 -- u units of a task whose job is not pending
-released-at : (a a' : ℕ → ℕ → ℕ) (f f' : ℕ → ℕ) (k u : ℕ) → f k ≡ 0 → Taken a k u a' → ((j : ℕ) → f' j ≡ cond (eqb j k) u (f j)) → (j m : ℕ) → 1 ≤ m → f' j + a' j m ≤ f j + a j m
-released-at a a' f f' k u none taken put j m h =
+released_at : (a a' : ℕ → ℕ → ℕ) (f f' : ℕ → ℕ) (k u : ℕ) → f k ≡ 0 → Taken a k u a' → ((j : ℕ) → f' j ≡ cond (eqb j k) u (f j)) → (j m : ℕ) → 1 ≤ m → f' j + a' j m ≤ f j + a j m
+released_at a a' f f' k u none taken put j m h =
     elim (cases_eq j k) [
       | inl e ↦ (
           let w : u + a' k m ≤ a k m = taken.within m h in
@@ -84,18 +84,18 @@ released-at a a' f f' k u none taken put j m h =
           grind (arith, nat_tests))
     ]
 
-pub eased-released : (p : Plan) (s t : State) (i u : ℕ) → Sane p s → Released p s i u t → Eased p s t
-eased-released p s t i u sane h = subst (λ x. Eased p s x) (sym h.rest) (record {
+pub eased_released : (p : Plan) (s t : State) (i u : ℕ) → Sane p s → Released p s i u t → Eased p s t
+eased_released p s t i u sane h = subst (λ x. Eased p s x) (sym h.rest) (record {
   flood = λ k m h. omega arith;
-  ahead = released-at s.tasks t.tasks s.left t.left i u h.none h.taken h.left;
-  coming = taken-falls s.tasks t.tasks i u h.taken;
+  ahead = released_at s.tasks t.tasks s.left t.left i u h.none h.taken h.left;
+  coming = taken_falls s.tasks t.tasks i u h.taken;
   age = λ j. (let new = h.age j in grind (arith, nat_tests));
   below = λ j h. omega arith;
   sane = record {
     zeroth = (let new = h.left 0 in let was = sane.zeroth in let first = h.first in grind (arith, nat_tests));
     outside = λ j out. (let new = h.left j in let was = sane.outside j out in let last = h.last in grind (arith, nat_tests));
     ageless = λ j none. (let new = h.left j in let new' = h.age j in let was = sane.ageless j in let some = h.some in grind (arith, nat_tests));
-    hold = holding-stays p s.left t.left s.holder s.held (other (cases_eq s.holder i)) sane.hold;
+    hold = holding_stays p s.left t.left s.holder s.held (other (cases_eq s.holder i)) sane.hold;
   };
 })
   where
@@ -104,13 +104,13 @@ eased-released p s t i u sane h = subst (λ x. Eased p s x) (sym h.rest) (record
     other (inr ne) a b = let new = h.left s.holder in grind (arith, nat_tests)
 
 -- a hold is granted only to the highest task with a job: seen from a task that a job goes before, nothing holds below it
-pub eased-granted : (p : Plan) (s t : State) (i u : ℕ) → Sane p s → Granted p s i u t → Eased p s t
-eased-granted p s t i u sane h = subst (λ x. Eased p s x) (sym h.rest) (record {
+pub eased_granted : (p : Plan) (s t : State) (i u : ℕ) → Sane p s → Granted p s i u t → Eased p s t
+eased_granted p s t i u sane h = subst (λ x. Eased p s x) (sym h.rest) (record {
   flood = λ k m h. omega arith;
   ahead = λ j m h. omega arith;
   coming = λ j m h. omega arith;
   age = λ j. omega arith;
-  below = λ j busy. none-below j busy (cases_lt j i);
+  below = λ j busy. none_below j busy (cases_lt j i);
   sane = record {
     zeroth = sane.zeroth;
     outside = sane.outside;
@@ -119,12 +119,12 @@ eased-granted p s t i u sane h = subst (λ x. Eased p s x) (sym h.rest) (record 
   };
 })
   where
-    none-below : (j : ℕ) → 1 ≤ upto s.left j → (j < i) ⊎ (i ≤ j) → cond (ltb j i) u 0 ≤ cond (ltb j s.holder) s.held 0
-    none-below j busy (inl l) = (let none : upto s.left j ≡ 0 = upto-zero s.left j (λ k a b. h.highest k a (omega arith)) in absurd (omega arith))
-    none-below j busy (inr g) = grind (arith, nat_tests)
+    none_below : (j : ℕ) → 1 ≤ upto s.left j → (j < i) ⊎ (i ≤ j) → cond (ltb j i) u 0 ≤ cond (ltb j s.holder) s.held 0
+    none_below j busy (inl l) = (let none : upto s.left j ≡ 0 = upto_zero s.left j (λ k a b. h.highest k a (omega arith)) in absurd (omega arith))
+    none_below j busy (inr g) = grind (arith, nat_tests)
 
-pub eased-let-go : (p : Plan) (s t : State) (i : ℕ) → Sane p s → LetGone s i t → Eased p s t
-eased-let-go p s t i sane h = subst (λ x. Eased p s x) (sym h.rest) (record {
+pub eased_let_go : (p : Plan) (s t : State) (i : ℕ) → Sane p s → LetGone s i t → Eased p s t
+eased_let_go p s t i sane h = subst (λ x. Eased p s x) (sym h.rest) (record {
   flood = λ k m h. omega arith;
   ahead = λ j m h. omega arith;
   coming = λ j m h. omega arith;
@@ -138,8 +138,8 @@ eased-let-go p s t i sane h = subst (λ x. Eased p s x) (sym h.rest) (record {
   };
 })
 
-pub eased-ended : (p : Plan) (s t : State) (i : ℕ) → Sane p s → Ended s i t → Eased p s t
-eased-ended p s t i sane h = subst (λ x. Eased p s x) (sym h.rest) (record {
+pub eased_ended : (p : Plan) (s t : State) (i : ℕ) → Sane p s → Ended s i t → Eased p s t
+eased_ended p s t i sane h = subst (λ x. Eased p s x) (sym h.rest) (record {
   flood = λ k m h. omega arith;
   ahead = λ j m k. (let new = h.left j in grind (arith, nat_tests));
   coming = λ j m h. omega arith;
@@ -162,5 +162,5 @@ eased-ended p s t i sane h = subst (λ x. Eased p s x) (sym h.rest) (record {
         let a : t.holder ≡ s.holder = h.holder ∙ cond-false (eqb s.holder i) 0 s.holder (ne_eqb s.holder i ne) in
         let b : t.held ≡ s.held = h.held ∙ cond-false (eqb s.holder i) 0 s.held (ne_eqb s.holder i ne) in
         let same : t.left s.holder ≡ s.left s.holder = h.left s.holder ∙ cond-false (eqb s.holder i) 0 (s.left s.holder) (ne_eqb s.holder i ne) in
-        let stays : Holding p t.left s.holder s.held = holding-stays p s.left t.left s.holder s.held (λ x y. omega arith) was in
+        let stays : Holding p t.left s.holder s.held = holding_stays p s.left t.left s.holder s.held (λ x y. omega arith) was in
         subst (λ x. Holding p t.left x t.held) (sym a) (subst (λ y. Holding p t.left s.holder y) (sym b) stays)

@@ -12,28 +12,28 @@ use Rattle.calls.specs.Jobs.{Job, older, served, ticked, after, end_age}
 use Rattle.calls.specs.States.{Plan, Accepted, State}
 use Rattle.calls.specs.Steps.{Released, Ended, Passed, Step}
 use Rattle.calls.proofs.Facts.{Safe}
-use Rattle.calls.proofs.Passing.{has-job, age-exact, uncapped, in-time}
+use Rattle.calls.proofs.Passing.{has_job, age_exact, uncapped, in_time}
 
 -- it has these units left and this age, and is there as long as it has units left
 abbrev pub Shown : Option Job → ℕ → ℕ → Type 0
 Shown None l a = l ≡ 0
 Shown (Some job) l a = (job.left ≡ l) × (1 ≤ l) × (job.age ≡ a)
 
-shown-same : (job : Option Job) (l a l' a' : ℕ) → l' ≡ l → a' ≡ a → Shown job l a → Shown job l' a'
-shown-same None l a l' a' e f h = omega arith
-shown-same (Some job) l a l' a' e f h = (omega arith, omega arith, omega arith)
+shown_same : (job : Option Job) (l a l' a' : ℕ) → l' ≡ l → a' ≡ a → Shown job l a → Shown job l' a'
+shown_same None l a l' a' e f h = omega arith
+shown_same (Some job) l a l' a' e f h = (omega arith, omega arith, omega arith)
 
 -- a tick, in which b says whether the task got the unit
-shown-ticked : (job : Option Job) (b : Bool) (l a l' a' u : ℕ) → u ≡ cond b 1 0 → l' ≡ l - u → a' ≡ cond (nat_le 1 l') (a + 1) 0 → Shown job l a → Shown (cond b (served (older job)) (older job)) l' a'
-shown-ticked None true l a l' a' u e f g h = omega arith
-shown-ticked None false l a l' a' u e f g h = omega arith
-shown-ticked (Some job) false l a l' a' u e f g h =
+shown_ticked : (job : Option Job) (b : Bool) (l a l' a' u : ℕ) → u ≡ cond b 1 0 → l' ≡ l - u → a' ≡ cond (nat_le 1 l') (a + 1) 0 → Shown job l a → Shown (cond b (served (older job)) (older job)) l' a'
+shown_ticked None true l a l' a' u e f g h = omega arith
+shown_ticked None false l a l' a' u e f g h = omega arith
+shown_ticked (Some job) false l a l' a' u e f g h =
     let unit : u ≡ 0 = e in
     let left : job.left ≡ l = h.0 in
     let some : 1 ≤ l = h.1 in
     let age : job.age ≡ a = h.2 in
     (omega arith, omega arith, grind (arith, nat_tests))
-shown-ticked (Some job) true l a l' a' u e f g h = go (nat_le job.left 1) refl
+shown_ticked (Some job) true l a l' a' u e f g h = go (nat_le job.left 1) refl
   where
     go : (c : Bool) → nat_le job.left 1 ≡ c → Shown (cond c None (Some (record { left = job.left - 1; age = job.age + 1 }))) l' a'
     go true k =
@@ -47,8 +47,8 @@ shown-ticked (Some job) true l a l' a' u e f g h = go (nat_le job.left 1) refl
         let more : 1 < job.left = grind (arith, nat_tests) in
         (omega arith, omega arith, grind (arith, nat_tests))
 
-shown-released : (p : Plan) (s t : State) (k u i : ℕ) (job : Option Job) → Released p s k u t → Shown job (s.left i) (s.age i) → Shown (cond (k == i) (Some (record { left = u; age = 0 })) job) (t.left i) (t.age i)
-shown-released p s t k u i job h shown = go (k == i) refl
+shown_released : (p : Plan) (s t : State) (k u i : ℕ) (job : Option Job) → Released p s k u t → Shown job (s.left i) (s.age i) → Shown (cond (k == i) (Some (record { left = u; age = 0 })) job) (t.left i) (t.age i)
+shown_released p s t k u i job h shown = go (k == i) refl
   where
     go : (b : Bool) → (k == i) ≡ b → Shown (cond b (Some (record { left = u; age = 0 })) job) (t.left i) (t.age i)
     go true e =
@@ -59,47 +59,47 @@ shown-released p s t k u i job h shown = go (k == i) refl
     go false e =
         let left = h.left i in
         let age = h.age i in
-        shown-same job (s.left i) (s.age i) (t.left i) (t.age i) (grind (arith, nat_tests)) (grind (arith, nat_tests)) shown
+        shown_same job (s.left i) (s.age i) (t.left i) (t.age i) (grind (arith, nat_tests)) (grind (arith, nat_tests)) shown
 
-shown-ended : (s t : State) (k i : ℕ) (job : Option Job) → Ended s k t → Shown job (s.left i) (s.age i) → Shown (cond (k == i) None job) (t.left i) (t.age i)
-shown-ended s t k i job h shown = go (k == i) refl
+shown_ended : (s t : State) (k i : ℕ) (job : Option Job) → Ended s k t → Shown job (s.left i) (s.age i) → Shown (cond (k == i) None job) (t.left i) (t.age i)
+shown_ended s t k i job h shown = go (k == i) refl
   where
     go : (b : Bool) → (k == i) ≡ b → Shown (cond b None job) (t.left i) (t.age i)
     go true e = let left = h.left i in grind (arith, nat_tests)
     go false e =
         let left = h.left i in
         let age = h.age i in
-        shown-same job (s.left i) (s.age i) (t.left i) (t.age i) (grind (arith, nat_tests)) (grind (arith, nat_tests)) shown
+        shown_same job (s.left i) (s.age i) (t.left i) (t.age i) (grind (arith, nat_tests)) (grind (arith, nat_tests)) shown
 
 -- a call that leaves jobs as they are
-shown-rest : (s t : State) (i : ℕ) (job : Option Job) → t.left ≡ s.left → t.age ≡ s.age → Shown job (s.left i) (s.age i) → Shown job (t.left i) (t.age i)
-shown-rest s t i job e f shown = shown-same job (s.left i) (s.age i) (t.left i) (t.age i) (λ x. e x i) (λ x. f x i) shown
+shown_rest : (s t : State) (i : ℕ) (job : Option Job) → t.left ≡ s.left → t.age ≡ s.age → Shown job (s.left i) (s.age i) → Shown job (t.left i) (t.age i)
+shown_rest s t i job e f shown = shown_same job (s.left i) (s.age i) (t.left i) (t.age i) (λ x. e x i) (λ x. f x i) shown
 
-shown-passed : (p : Plan) (s t : State) (got : Got) (i : ℕ) (job : Option Job) → Accepted p → Safe p s → Passed p s got t → Shown job (s.left i) (s.age i) → Shown (ticked i job got) (t.left i) (t.age i)
-shown-passed p s t Nobody i job ok safe h shown = shown-ticked job false (s.left i) (s.age i) (t.left i) (t.age i) 0 refl (h.left i) (age-exact p s ok safe t Nobody h i) shown
-shown-passed p s t (Part k) i job ok safe h shown = shown-ticked job false (s.left i) (s.age i) (t.left i) (t.age i) 0 refl (h.left i) (age-exact p s ok safe t (Part k) h i) shown
-shown-passed p s t (Task j a) i job ok safe h shown = shown-ticked job (j == i) (s.left i) (s.age i) (t.left i) (t.age i) (cond (i == j) 1 0) (grind (arith, nat_tests)) (h.left i) (age-exact p s ok safe t (Task j a) h i) shown
+shown_passed : (p : Plan) (s t : State) (got : Got) (i : ℕ) (job : Option Job) → Accepted p → Safe p s → Passed p s got t → Shown job (s.left i) (s.age i) → Shown (ticked i job got) (t.left i) (t.age i)
+shown_passed p s t Nobody i job ok safe h shown = shown_ticked job false (s.left i) (s.age i) (t.left i) (t.age i) 0 refl (h.left i) (age_exact p s ok safe t Nobody h i) shown
+shown_passed p s t (Part k) i job ok safe h shown = shown_ticked job false (s.left i) (s.age i) (t.left i) (t.age i) 0 refl (h.left i) (age_exact p s ok safe t (Part k) h i) shown
+shown_passed p s t (Task j a) i job ok safe h shown = shown_ticked job (j == i) (s.left i) (s.age i) (t.left i) (t.age i) (cond (i == j) 1 0) (grind (arith, nat_tests)) (h.left i) (age_exact p s ok safe t (Task j a) h i) shown
 
-pub shown-after : (p : Plan) (s t : State) (c : Call) (a : Answer) (i : ℕ) (job : Option Job) → Accepted p → Safe p s → Step p s c a t → Shown job (s.left i) (s.age i) → Shown (after i job c a) (t.left i) (t.age i)
-shown-after p s t (Offer k u) answers.Done i job ok safe h shown = shown-rest s t i job (ap (λ x. x.left) h.rest) (ap (λ x. x.age) h.rest) shown
-shown-after p s t (Release k u) answers.Done i job ok safe h shown = shown-released p s t k u i job h shown
-shown-after p s t (Hold k u) answers.Done i job ok safe h shown = shown-rest s t i job (ap (λ x. x.left) h.rest) (ap (λ x. x.age) h.rest) shown
-shown-after p s t (LetGo k) answers.Done i job ok safe h shown = shown-rest s t i job (ap (λ x. x.left) h.rest) (ap (λ x. x.age) h.rest) shown
-shown-after p s t (End k) answers.Done i job ok safe h shown = shown-ended s t k i job h shown
-shown-after p s t Tick (answers.Ticked got) i job ok safe h shown = shown-passed p s t got i job ok safe h shown
-shown-after p s t (Offer k u) (answers.Refused e) i job ok safe h shown = shown-rest s t i job (ap (λ x. x.left) h) (ap (λ x. x.age) h) shown
-shown-after p s t (Release k u) (answers.Refused e) i job ok safe h shown = shown-rest s t i job (ap (λ x. x.left) h) (ap (λ x. x.age) h) shown
-shown-after p s t (Hold k u) (answers.Refused e) i job ok safe h shown = shown-rest s t i job (ap (λ x. x.left) h) (ap (λ x. x.age) h) shown
-shown-after p s t (LetGo k) (answers.Refused e) i job ok safe h shown = shown-rest s t i job (ap (λ x. x.left) h) (ap (λ x. x.age) h) shown
-shown-after p s t (End k) (answers.Refused e) i job ok safe h shown = shown-rest s t i job (ap (λ x. x.left) h) (ap (λ x. x.age) h) shown
-shown-after p s t c a i job ok safe h shown = absurd h
+pub shown_after : (p : Plan) (s t : State) (c : Call) (a : Answer) (i : ℕ) (job : Option Job) → Accepted p → Safe p s → Step p s c a t → Shown job (s.left i) (s.age i) → Shown (after i job c a) (t.left i) (t.age i)
+shown_after p s t (Offer k u) answers.Done i job ok safe h shown = shown_rest s t i job (ap (λ x. x.left) h.rest) (ap (λ x. x.age) h.rest) shown
+shown_after p s t (Release k u) answers.Done i job ok safe h shown = shown_released p s t k u i job h shown
+shown_after p s t (Hold k u) answers.Done i job ok safe h shown = shown_rest s t i job (ap (λ x. x.left) h.rest) (ap (λ x. x.age) h.rest) shown
+shown_after p s t (LetGo k) answers.Done i job ok safe h shown = shown_rest s t i job (ap (λ x. x.left) h.rest) (ap (λ x. x.age) h.rest) shown
+shown_after p s t (End k) answers.Done i job ok safe h shown = shown_ended s t k i job h shown
+shown_after p s t Tick (answers.Ticked got) i job ok safe h shown = shown_passed p s t got i job ok safe h shown
+shown_after p s t (Offer k u) (answers.Refused e) i job ok safe h shown = shown_rest s t i job (ap (λ x. x.left) h) (ap (λ x. x.age) h) shown
+shown_after p s t (Release k u) (answers.Refused e) i job ok safe h shown = shown_rest s t i job (ap (λ x. x.left) h) (ap (λ x. x.age) h) shown
+shown_after p s t (Hold k u) (answers.Refused e) i job ok safe h shown = shown_rest s t i job (ap (λ x. x.left) h) (ap (λ x. x.age) h) shown
+shown_after p s t (LetGo k) (answers.Refused e) i job ok safe h shown = shown_rest s t i job (ap (λ x. x.left) h) (ap (λ x. x.age) h) shown
+shown_after p s t (End k) (answers.Refused e) i job ok safe h shown = shown_rest s t i job (ap (λ x. x.left) h) (ap (λ x. x.age) h) shown
+shown_after p s t c a i job ok safe h shown = absurd h
 
 -- a tick tells the age of the job that it ended, and that is within the bound
-pub told-in-time : (p : Plan) (s t : State) (i a : ℕ) (job : Option Job) → Accepted p → Safe p s → Passed p s (Task i a) t → Shown job (s.left i) (s.age i) → (a ≡ end_age job) × (a ≤ p.bound i)
-told-in-time p s t i a job ok safe h shown = (exact job shown, within)
+pub told_in_time : (p : Plan) (s t : State) (i a : ℕ) (job : Option Job) → Accepted p → Safe p s → Passed p s (Task i a) t → Shown job (s.left i) (s.age i) → (a ≡ end_age job) × (a ≤ p.bound i)
+told_in_time p s t i a job ok safe h shown = (exact job shown, within)
   where
     some : 1 ≤ s.left i
-    some = (has-job p s i a safe.sane h.due).1
+    some = (has_job p s i a safe.sane h.due).1
 
     old : min (s.age i + 1) p.cap ≡ s.age i + 1
     old = uncapped p s ok safe i some
@@ -112,4 +112,4 @@ told-in-time p s t i a job ok safe h shown = (exact job shown, within)
     exact (Some job) e = told ∙ (λ x. cond (nat_le (sym e.0 x) 1) (sym e.2 x + 1) 0)
 
     within : a ≤ p.bound i
-    within = let soon : s.age i + 1 ≤ p.bound i = in-time p s ok safe i h.due.1 (has-job p s i a safe.sane h.due).0 some in let x = told in grind (arith, nat_tests)
+    within = let soon : s.age i + 1 ≤ p.bound i = in_time p s ok safe i h.due.1 (has_job p s i a safe.sane h.due).0 some in let x = told in grind (arith, nat_tests)

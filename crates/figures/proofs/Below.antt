@@ -6,16 +6,16 @@ abbrev pub too_small : (ℕ → ℕ) → ℕ → Bool
 too_small f l = eqb l 0 || ltb l (f l)
 
 -- every window from 1 to below n is too small for what f needs in it
-abbrev pub all-too-small : (ℕ → ℕ) → ℕ → Bool
-all-too-small f zero = true
-all-too-small f (suc n) = too_small f n && all-too-small f n
+abbrev pub all_too_small : (ℕ → ℕ) → ℕ → Bool
+all_too_small f zero = true
+all_too_small f (suc n) = too_small f n && all_too_small f n
 
-pub each-too-small : (f : ℕ → ℕ) (n : ℕ) → all-too-small f n ≡ true → (l : ℕ) → 1 ≤ l → l < n → l < f l
-each-too-small f zero e l h k = absurd (omega arith)
-each-too-small f (suc n) e l h k =
-    let p = and_parts (too_small f n) (all-too-small f n) e in
+pub each_too_small : (f : ℕ → ℕ) (n : ℕ) → all_too_small f n ≡ true → (l : ℕ) → 1 ≤ l → l < n → l < f l
+each_too_small f zero e l h k = absurd (omega arith)
+each_too_small f (suc n) e l h k =
+    let p = and_parts (too_small f n) (all_too_small f n) e in
     elim (cases_lt l n) [
-      | inl below ↦ each-too-small f n p.1 l h below
+      | inl below ↦ each_too_small f n p.1 l h below
       | inr here ↦ (let same : l ≡ n = omega arith in last p.0 same)
     ]
   where

@@ -4,7 +4,7 @@
 ghost use Rattle.std.specs.Prelude.{◌≡◌, ℕ, ◌<◌, ◌≤◌, true, false, ◌&&◌, if◌then◌else◌, Some, None, MatchOption, nat_le};
 ghost use Rattle.source.specs.Facts.{is_part, offerable, Sound, Kept, Taken, Ticked, Driven};
 ghost use Rattle.gate_tests.specs.Stores.{held, alike, Gives};
-ghost use Rattle.gate_tests.specs.Storing.{stores-sound, stores-kept, stores-taken, stores-ticked};
+ghost use Rattle.gate_tests.specs.Storing.{stores_sound, stores_kept, stores_taken, stores_ticked};
 ghost use Rattle.std.proofs.Common.{rules, arith};
 
 use source::{Gate, LONGEST, MOST_PARTS, Source};
@@ -62,7 +62,7 @@ impl Source for Reserve {
 
     ghost allowed = { λ s. held s.first.left s.second.left };
 
-    ghost sound = { λ s. stores-sound s.first.size s.second.size s.first.left s.second.left s.sizes.0 s.sizes.1 s.firsts s.seconds };
+    ghost sound = { λ s. stores_sound s.first.size s.second.size s.first.left s.second.left s.sizes.0 s.sizes.1 s.firsts s.seconds };
 
     fn count(&self) -> u32 {
         STORES
@@ -94,8 +94,8 @@ impl Gate for Reserve {
     ghost ticks = { λ s t. (t.first.size ≡ s.first.size) × (t.second.size ≡ s.second.size) × (t.first.left ≡ s.first.left) × (t.second.left ≡ s.second.left) };
 
     ghost driven = { record {
-      taken = λ s t k u h. (stores-kept s.first.size s.second.size t.first.size t.second.size h.0 h.1, stores-taken s.first.left s.second.left k u t.first.left t.second.left h.2);
-      ticked = λ s t h. (stores-kept s.first.size s.second.size t.first.size t.second.size h.0 h.1, stores-ticked s.first.left s.second.left t.first.left t.second.left h.2 h.3);
+      taken = λ s t k u h. (stores_kept s.first.size s.second.size t.first.size t.second.size h.0 h.1, stores_taken s.first.left s.second.left k u t.first.left t.second.left h.2);
+      ticked = λ s t h. (stores_kept s.first.size s.second.size t.first.size t.second.size h.0 h.1, stores_ticked s.first.left s.second.left t.first.left t.second.left h.2 h.3);
     } };
 
     fn offer(&mut self, part: u32, units: u64) -> bool {

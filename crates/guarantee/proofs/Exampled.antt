@@ -14,7 +14,7 @@ use Rattle.run.specs.Steps.{grown, released, granted, due, passed}
 use Rattle.guarantee.specs.Playing.{Now, Played}
 use Rattle.guarantee.specs.Promise.{Acceptable, Modelled, begun}
 use Rattle.guarantee.specs.Views.{plan_of, view_of}
-use Rattle.guarantee.proofs.Promising.{all-same, modelled}
+use Rattle.guarantee.proofs.Promising.{all_same, modelled}
 use Rattle.guarantee.specs.Example.{store_allowed, store_demand, store_takes, store_ticks, only_row, only_limit, some_calls, their_answers, run_fixed, Example}
 
 sound : (s : ℕ) → Sound 1 store_demand (store_allowed s)
@@ -56,11 +56,11 @@ first = begun 3 only_row
 abbrev offered : Now ℕ
 offered = record { bank = 1; rows = only_row; state = grown at_start 1 2 }
 
-abbrev released-one : Now ℕ
-released-one = record { bank = 1; rows = given (row_at only_row 0) ∷ []; state = released (grown at_start 1 2) 1 2 }
+abbrev released_one : Now ℕ
+released_one = record { bank = 1; rows = given (row_at only_row 0) ∷ []; state = released (grown at_start 1 2) 1 2 }
 
 abbrev holding : Now ℕ
-holding = record { bank = 1; rows = released-one.rows; state = granted released-one.state 1 1 }
+holding = record { bank = 1; rows = released_one.rows; state = granted released_one.state 1 1 }
 
 abbrev ticked : Now ℕ → Now ℕ
 ticked s = record { bank = s.bank; rows = map later s.rows; state = passed s.state (due 1 1 s.state) }
@@ -70,7 +70,7 @@ played = (
   offered,
   (refl, (refl, lit≤ tt, lit≤ tt, refl), refl, refl),
   (
-    released-one,
+    released_one,
     (refl, refl, record { offered = refl; count = refl; moved = refl }, refl),
     (
       holding,
@@ -96,13 +96,13 @@ played = (
   ),
 )
 
-only-fit : (i : ℕ) → i < 1 → Fit (row_at only_row i)
-only-fit zero h = record { paces = (lit≤ tt, lit≤ tt, lit≤ tt); places = (refl, lit≤ tt, lit≤ tt, lit≤ tt); costs = small }
+only_fit : (i : ℕ) → i < 1 → Fit (row_at only_row i)
+only_fit zero h = record { paces = (lit≤ tt, lit≤ tt, lit≤ tt); places = (refl, lit≤ tt, lit≤ tt, lit≤ tt); costs = small }
   where
     small : (j : ℕ) → get_or (2 ∷ replicate 7 0) j 0 ≤ 1000000
     small zero = lit≤ tt
-    small (suc j) = omega (arith, all-same {A = ℕ} 7 j 0)
-only-fit (suc i) h = absurd (omega arith)
+    small (suc j) = omega (arith, all_same {A = ℕ} 7 j 0)
+only_fit (suc i) h = absurd (omega arith)
 
 judged : Judged store_demand 1 only_limit 1 only_row (Accepted 1) (5 ∷ [])
 judged = (refl, lit≤ tt, lit≤ tt, λ i h. bounded i h)
@@ -122,8 +122,8 @@ judged = (refl, lit≤ tt, lit≤ tt, λ i h. bounded i h)
 abbrev end : Now ℕ
 end = ticked (ticked (ticked (ticked holding)))
 
-modelled-end : Modelled (plan_of 1 store_demand 1 only_row only_limit (5 ∷ [])) (view_of (store_allowed 3) 1 only_row at_start) (view_of (store_allowed end.bank) 1 end.rows end.state) (log_of some_calls their_answers)
-modelled-end = modelled (λ s. 1) (λ s. store_demand) store_allowed store_takes store_ticks sound driven 3 1 only_row only_limit (5 ∷ []) (Accepted 1) (lit≤ tt) (lit≤ tt) only-fit deadlines holds judged refl some_calls their_answers end played
+modelled_end : Modelled (plan_of 1 store_demand 1 only_row only_limit (5 ∷ [])) (view_of (store_allowed 3) 1 only_row at_start) (view_of (store_allowed end.bank) 1 end.rows end.state) (log_of some_calls their_answers)
+modelled_end = modelled (λ s. 1) (λ s. store_demand) store_allowed store_takes store_ticks sound driven 3 1 only_row only_limit (5 ∷ []) (Accepted 1) (lit≤ tt) (lit≤ tt) only_fit deadlines holds judged refl some_calls their_answers end played
   where
     deadlines : (i : ℕ) → i < 1 → (limit_at only_limit i).deadline + (row_at only_row i).jitter ≤ (row_at only_row i).period
     deadlines zero h = lit≤ tt
@@ -133,4 +133,4 @@ modelled-end = modelled (λ s. 1) (λ s. store_demand) store_allowed store_takes
     holds i j a b = absurd (omega arith)
 
 pub example : Example
-example = record { sound = sound; driven = driven; acceptable = acceptable; run = end; played = played; modelled = modelled-end }
+example = record { sound = sound; driven = driven; acceptable = acceptable; run = end; played = played; modelled = modelled_end }

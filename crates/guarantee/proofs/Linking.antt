@@ -5,7 +5,7 @@ use Rattle.refusal.specs.declared.Fault.{Fault}
 use Rattle.source.specs.Facts.{Sound, Driven}
 use Rattle.paced.specs.Pace.{largest_cost}
 use Rattle.paced.specs.Tables.{row_at, demands_of, allowances_of}
-use Rattle.paced.specs.Together.{table-sound}
+use Rattle.paced.specs.Together.{table_sound}
 use Rattle.paced.specs.declared.row.Row.{Row}
 use Rattle.plan.specs.Limits.{limit_at}
 use Rattle.plan.specs.declared.tasks.Limit.{Limit}
@@ -20,17 +20,17 @@ use Rattle.run.specs.Faults.{offer_fault, release_fault, hold_fault, let_go_faul
 use Rattle.run.specs.States.{no_job, backlog_of}
 use Rattle.run.specs.Steps.{grown, released, granted, let_go, removed, ended, due, passed}
 use Rattle.run.specs.declared.state.State.{State}
-use Rattle.run.proofs.Faults.{offer-bounds, releasable, holdable, holding, endable}
+use Rattle.run.proofs.Faults.{offer_bounds, releasable, holdable, holding, endable}
 use Rattle.guarantee.specs.Playing.{Fixed, Now, Did, Played}
 use Rattle.guarantee.specs.Views.{plan_of, view_of}
-use Rattle.guarantee.proofs.Steps.{offered-step, released-step, granted-step, let_go-step, ended-step}
-use Rattle.guarantee.proofs.Ticking.{tick-step, passed-backlogs, passed-jobs, passed-holder}
-use Rattle.guarantee.proofs.Steady.{Steady, allowances-few, steady-given, steady-later}
+use Rattle.guarantee.proofs.Steps.{offered_step, released_step, granted_step, let_go_step, ended_step}
+use Rattle.guarantee.proofs.Ticking.{tick_step, passed_backlogs, passed_jobs, passed_holder}
+use Rattle.guarantee.proofs.Steady.{Steady, allowances_few, steady_given, steady_later}
 
 -- what every state of the run keeps to: the bank's parts and demand, the tasks' rows, places for all, and a known holder
 pub record Inside {S : Type 0} (parts : S → ℕ) (demanded : S → ℕ → ℕ → ℕ) (n : ℕ) (d : ℕ → ℕ → ℕ) (m : ℕ) (start : List Row) (s : Now S) : Type 0 where
-  pub parts-are : parts s.bank ≡ n
-  pub demand-is : demanded s.bank ≡ d
+  pub parts_are : parts s.bank ≡ n
+  pub demand_is : demanded s.bank ≡ d
   pub steady : Steady m start s.rows
   pub backlogs : length s.state.backlogs ≡ 16
   pub jobs : length s.state.jobs ≡ 16
@@ -39,7 +39,7 @@ pub record Inside {S : Type 0} (parts : S → ℕ) (demanded : S → ℕ → ℕ
 module _ {S : Type 0} (parts : S → ℕ) (demanded allowed : S → ℕ → ℕ → ℕ) (takes : S → ℕ → ℕ → S → Type 0) (ticks : S → S → Type 0)
     (sound : (s : S) → Sound (parts s) (demanded s) (allowed s)) (driven : Driven parts demanded allowed takes ticks)
     (n : ℕ) (d : ℕ → ℕ → ℕ) (m : ℕ) (start : List Row) (limits : List Limit) (bounds : List ℕ)
-    (few-parts : n ≤ 16) (few-tasks : m ≤ 16)
+    (few_parts : n ≤ 16) (few_tasks : m ≤ 16)
     (deadlines : (i : ℕ) → i < m → (limit_at limits i).deadline + (row_at start i).jitter ≤ (row_at start i).period)
     (bounded : (i : ℕ) → i < m → get_or bounds i 0 ≤ (limit_at limits i).deadline) where
   abbrev pub plan : model.Plan
@@ -57,15 +57,15 @@ module _ {S : Type 0} (parts : S → ℕ) (demanded allowed : S → ℕ → ℕ 
   pub fits : (s : Now S) → In s → model.Fits plan (view s)
   fits s h =
       let steady = h.steady in
-      let bank : Sound n d (allowed s.bank) = subst (λ x. Sound n x (allowed s.bank)) h.demand-is (subst (λ x. Sound x (demanded s.bank) (allowed s.bank)) h.parts-are (sound s.bank)) in
-      let tasks : Sound m (demands_of m (row_at start)) (allowances_of m (row_at s.rows)) = subst (λ x. Sound m x (allowances_of m (row_at s.rows))) steady.demand (table-sound m (row_at s.rows) (omega arith) steady.fit) in
+      let bank : Sound n d (allowed s.bank) = subst (λ x. Sound n x (allowed s.bank)) h.demand_is (subst (λ x. Sound x (demanded s.bank) (allowed s.bank)) h.parts_are (sound s.bank)) in
+      let tasks : Sound m (demands_of m (row_at start)) (allowances_of m (row_at s.rows)) = subst (λ x. Sound m x (allowances_of m (row_at s.rows))) steady.demand (table_sound m (row_at s.rows) (omega arith) steady.fit) in
       record { bank = bank; tasks = tasks; one = λ i l a b c. one i l a b c }
     where
       one : (i l : ℕ) → 1 ≤ i → i ≤ m → l ≤ get_or bounds (i - 1) 0 → allowances_of m (row_at s.rows) i l ≤ largest_cost (row_at start (i - 1))
       one i l a b c =
           let place : i - 1 < m = omega arith in
           let alike = h.steady.alike (i - 1) place in
-          let most = allowances-few m (row_at s.rows) i l (h.steady.fit (i - 1) place) (omega (arith, deadlines (i - 1) place, bounded (i - 1) place, alike.period, alike.jitter)) in
+          let most = allowances_few m (row_at s.rows) i l (h.steady.fit (i - 1) place) (omega (arith, deadlines (i - 1) place, bounded (i - 1) place, alike.period, alike.jitter)) in
           omega (arith, most, alike.cost)
 
   -- a call with its answer is a step of the model, and what is kept stays kept
@@ -80,29 +80,29 @@ module _ {S : Type 0} (parts : S → ℕ) (demanded allowed : S → ℕ → ℕ 
   answered c s t a b v told to step = subst (λ y. Step plan (view s) c y (view t)) (sym told) (subst (λ w. Step plan (view s) c b w) to step)
 
   -- a call by its fault: what is refused changes nothing
-  by-answer : (c : Call) (s t : Now S) (a : Answer) (o : Option Fault) {P : Type 0} (r : Fault → Refusal) → MatchOption o P (λ e. (a ≡ answers.Refused (r e)) × (t ≡ s)) → ((e : Refusal) → Step plan (view s) c (answers.Refused e) (view s)) → In s → (o ≡ None → P → Stepped c a s t) → Stepped c a s t
-  by-answer c s t a None r x stays h done = done refl x
-  by-answer c s t a (Some e) r x stays h done = (answered c s t a _ (view s) x.0 (ap view (sym x.1)) (stays _), subst In (sym x.1) h)
+  by_answer : (c : Call) (s t : Now S) (a : Answer) (o : Option Fault) {P : Type 0} (r : Fault → Refusal) → MatchOption o P (λ e. (a ≡ answers.Refused (r e)) × (t ≡ s)) → ((e : Refusal) → Step plan (view s) c (answers.Refused e) (view s)) → In s → (o ≡ None → P → Stepped c a s t) → Stepped c a s t
+  by_answer c s t a None r x stays h done = done refl x
+  by_answer c s t a (Some e) r x stays h done = (answered c s t a _ (view s) x.0 (ap view (sym x.1)) (stays _), subst In (sym x.1) h)
 
   -- the bank and the rows are as they were
-  kept-inside : (s t : Now S) → In s → t.bank ≡ s.bank → t.rows ≡ s.rows → length t.state.backlogs ≡ 16 → length t.state.jobs ≡ 16 → t.state.holder ≤ m → In t
-  kept-inside s t h bank rows backlogs jobs holder =
-      record { parts-are = ap parts bank ∙ h.parts-are; demand-is = ap demanded bank ∙ h.demand-is; steady = subst (Steady m start) (sym rows) h.steady; backlogs = backlogs; jobs = jobs; holder = holder }
+  kept_inside : (s t : Now S) → In s → t.bank ≡ s.bank → t.rows ≡ s.rows → length t.state.backlogs ≡ 16 → length t.state.jobs ≡ 16 → t.state.holder ≤ m → In t
+  kept_inside s t h bank rows backlogs jobs holder =
+      record { parts_are = ap parts bank ∙ h.parts_are; demand_is = ap demanded bank ∙ h.demand_is; steady = subst (Steady m start) (sym rows) h.steady; backlogs = backlogs; jobs = jobs; holder = holder }
 
-  kept-view : (s t : Now S) (x : State) → t.bank ≡ s.bank → t.rows ≡ s.rows → t.state ≡ x → view_of (allowed s.bank) m s.rows x ≡ view t
-  kept-view s t x bank rows state i = view_of (allowed (sym bank i)) m (sym rows i) (sym state i)
+  kept_view : (s t : Now S) (x : State) → t.bank ≡ s.bank → t.rows ≡ s.rows → t.state ≡ x → view_of (allowed s.bank) m s.rows x ≡ view t
+  kept_view s t x bank rows state i = view_of (allowed (sym bank i)) m (sym rows i) (sym state i)
 
-  step-offer : (s t : Now S) (k u : ℕ) (a : Answer) → In s → DidHere (Offer k u) a s t → Stepped (Offer k u) a s t
-  step-offer s t k u a h did =
-      by-answer (Offer k u) s t a (offer_fault true n (allowed s.bank k 1) s.state.backlogs k u) _ did (λ r. refl) h
-      (λ e x. (let part = offer-bounds true n (allowed s.bank k 1) s.state.backlogs k u refl e in
+  step_offer : (s t : Now S) (k u : ℕ) (a : Answer) → In s → DidHere (Offer k u) a s t → Stepped (Offer k u) a s t
+  step_offer s t k u a h did =
+      by_answer (Offer k u) s t a (offer_fault true n (allowed s.bank k 1) s.state.backlogs k u) _ did (λ r. refl) h
+      (λ e x. (let part = offer_bounds true n (allowed s.bank k 1) s.state.backlogs k u refl e in
       let g = driven.taken s.bank t.bank k u x.1 in
-      let off = offered-step m s.rows s.state (allowed s.bank) (allowed t.bank) k u part.0 (omega (arith, part.1, h.backlogs)) g.1 in
+      let off = offered_step m s.rows s.state (allowed s.bank) (allowed t.bank) k u part.0 (omega (arith, part.1, h.backlogs)) g.1 in
       let to : view_of (allowed t.bank) m s.rows (grown s.state k u) ≡ view t = λ i. view_of (allowed t.bank) m (sym x.2 i) (sym x.3 i) in (
         answered (Offer k u) s t a answers.Done _ x.0 to off,
         record {
-          parts-are = g.0.count ∙ h.parts-are;
-          demand-is = g.0.demand ∙ h.demand-is;
+          parts_are = g.0.count ∙ h.parts_are;
+          demand_is = g.0.demand ∙ h.demand_is;
           steady = subst (Steady m start) (sym x.2) h.steady;
           backlogs = ap (λ y. length y.backlogs) x.3 ∙ length-set s.state.backlogs (k - 1) (backlog_of s.state.backlogs k + u) ∙ h.backlogs;
           jobs = ap (λ y. length y.jobs) x.3 ∙ h.jobs;
@@ -110,17 +110,17 @@ module _ {S : Type 0} (parts : S → ℕ) (demanded allowed : S → ℕ → ℕ 
         },
       )))
 
-  step-release : (s t : Now S) (i u : ℕ) (a : Answer) → In s → DidHere (Release i u) a s t → Stepped (Release i u) a s t
-  step-release s t i u a h did =
-      by-answer (Release i u) s t a (release_fault true m (allowances_of m (row_at s.rows) i 1) s.state.jobs i u) _ did (λ r. refl) h
+  step_release : (s t : Now S) (i u : ℕ) (a : Answer) → In s → DidHere (Release i u) a s t → Stepped (Release i u) a s t
+  step_release s t i u a h did =
+      by_answer (Release i u) s t a (release_fault true m (allowances_of m (row_at s.rows) i 1) s.state.jobs i u) _ did (λ r. refl) h
       (λ e x. (let most = allowances_of m (row_at s.rows) i 1 in
       let task = releasable true m most s.state.jobs i u refl e in
-      let y = steady-given m start s.rows h.steady i u t.rows x.2 in
+      let y = steady_given m start s.rows h.steady i u t.rows x.2 in
       let to : view_of (allowed s.bank) m t.rows (released s.state i u) ≡ view t = λ k. view_of (allowed (sym x.1 k)) m t.rows (sym x.3 k) in (
-        answered (Release i u) s t a answers.Done _ x.0 to (released-step m s.rows s.state start n d (allowed s.bank) limits bounds t.rows most i u task (omega (arith, task.last, h.jobs)) y.1),
+        answered (Release i u) s t a answers.Done _ x.0 to (released_step m s.rows s.state start n d (allowed s.bank) limits bounds t.rows most i u task (omega (arith, task.last, h.jobs)) y.1),
         record {
-          parts-are = ap parts x.1 ∙ h.parts-are;
-          demand-is = ap demanded x.1 ∙ h.demand-is;
+          parts_are = ap parts x.1 ∙ h.parts_are;
+          demand_is = ap demanded x.1 ∙ h.demand_is;
           steady = y.0;
           backlogs = ap (λ z. length z.backlogs) x.3 ∙ h.backlogs;
           jobs = ap (λ z. length z.jobs) x.3 ∙ length-set s.state.jobs (i - 1) (record { left = u; age = 0 }) ∙ h.jobs;
@@ -128,65 +128,65 @@ module _ {S : Type 0} (parts : S → ℕ) (demanded allowed : S → ℕ → ℕ 
         },
       )))
 
-  step-hold : (s t : Now S) (i u : ℕ) (a : Answer) → In s → DidHere (Hold i u) a s t → Stepped (Hold i u) a s t
-  step-hold s t i u a h did =
-      by-answer (Hold i u) s t a (hold_fault true m limits s.state i u) _ did (λ r. refl) h
+  step_hold : (s t : Now S) (i u : ℕ) (a : Answer) → In s → DidHere (Hold i u) a s t → Stepped (Hold i u) a s t
+  step_hold s t i u a h did =
+      by_answer (Hold i u) s t a (hold_fault true m limits s.state i u) _ did (λ r. refl) h
       (λ e x. (let task = holdable true m limits s.state i u refl e in
-      let step = granted-step m s.rows s.state start n d (allowed s.bank) limits bounds i u task in (
-        answered (Hold i u) s t a answers.Done _ x.0 (kept-view s t (granted s.state i u) x.1 x.2 x.3) step,
-        kept-inside s t h x.1 x.2 (ap (λ y. length y.backlogs) x.3 ∙ h.backlogs) (ap (λ y. length y.jobs) x.3 ∙ h.jobs) (omega (arith, ap (λ y. y.holder) x.3, task.last)),
+      let step = granted_step m s.rows s.state start n d (allowed s.bank) limits bounds i u task in (
+        answered (Hold i u) s t a answers.Done _ x.0 (kept_view s t (granted s.state i u) x.1 x.2 x.3) step,
+        kept_inside s t h x.1 x.2 (ap (λ y. length y.backlogs) x.3 ∙ h.backlogs) (ap (λ y. length y.jobs) x.3 ∙ h.jobs) (omega (arith, ap (λ y. y.holder) x.3, task.last)),
       )))
 
-  step-let_go : (s t : Now S) (i : ℕ) (a : Answer) → In s → DidHere (LetGo i) a s t → Stepped (LetGo i) a s t
-  step-let_go s t i a h did =
-      by-answer (LetGo i) s t a (let_go_fault true m s.state i) _ did (λ r. refl) h
-      (λ e x. (let step = let_go-step m s.rows s.state (allowed s.bank) i (holding true m s.state i refl e) in (
-        answered (LetGo i) s t a answers.Done _ x.0 (kept-view s t (let_go s.state) x.1 x.2 x.3) step,
-        kept-inside s t h x.1 x.2 (ap (λ y. length y.backlogs) x.3 ∙ h.backlogs) (ap (λ y. length y.jobs) x.3 ∙ h.jobs) (omega (arith, ap (λ y. y.holder) x.3)),
+  step_let_go : (s t : Now S) (i : ℕ) (a : Answer) → In s → DidHere (LetGo i) a s t → Stepped (LetGo i) a s t
+  step_let_go s t i a h did =
+      by_answer (LetGo i) s t a (let_go_fault true m s.state i) _ did (λ r. refl) h
+      (λ e x. (let step = let_go_step m s.rows s.state (allowed s.bank) i (holding true m s.state i refl e) in (
+        answered (LetGo i) s t a answers.Done _ x.0 (kept_view s t (let_go s.state) x.1 x.2 x.3) step,
+        kept_inside s t h x.1 x.2 (ap (λ y. length y.backlogs) x.3 ∙ h.backlogs) (ap (λ y. length y.jobs) x.3 ∙ h.jobs) (omega (arith, ap (λ y. y.holder) x.3)),
       )))
 
-  step-end : (s t : Now S) (i : ℕ) (a : Answer) → In s → DidHere (End i) a s t → Stepped (End i) a s t
-  step-end s t i a h did =
-      by-answer (End i) s t a (end_fault true m s.state.jobs i) _ did (λ r. refl) h
+  step_end : (s t : Now S) (i : ℕ) (a : Answer) → In s → DidHere (End i) a s t → Stepped (End i) a s t
+  step_end s t i a h did =
+      by_answer (End i) s t a (end_fault true m s.state.jobs i) _ did (λ r. refl) h
       (λ e x. (let task = endable true m s.state.jobs i refl e in
-      let step = ended-step m s.rows s.state (allowed s.bank) i task.0 (omega (arith, task.1, h.jobs)) task.2 in
-      let keeps = ended-keeps s.state i in (
-        answered (End i) s t a answers.Done _ x.0 (kept-view s t (ended s.state i) x.1 x.2 x.3) step,
-        kept-inside s t h x.1 x.2 (ap (λ y. length y.backlogs) x.3 ∙ keeps.0 ∙ h.backlogs) (ap (λ y. length y.jobs) x.3 ∙ keeps.1 ∙ h.jobs) (omega (arith, ap (λ y. y.holder) x.3, keeps.2, h.holder)),
+      let step = ended_step m s.rows s.state (allowed s.bank) i task.0 (omega (arith, task.1, h.jobs)) task.2 in
+      let keeps = ended_keeps s.state i in (
+        answered (End i) s t a answers.Done _ x.0 (kept_view s t (ended s.state i) x.1 x.2 x.3) step,
+        kept_inside s t h x.1 x.2 (ap (λ y. length y.backlogs) x.3 ∙ keeps.0 ∙ h.backlogs) (ap (λ y. length y.jobs) x.3 ∙ keeps.1 ∙ h.jobs) (omega (arith, ap (λ y. y.holder) x.3, keeps.2, h.holder)),
       )))
     where
-      ended-keeps : (s : State) (i : ℕ) → (length (ended s i).backlogs ≡ length s.backlogs) × (length (ended s i).jobs ≡ length s.jobs) × ((ended s i).holder ≤ s.holder)
-      ended-keeps s i = go (eqb s.holder i)
+      ended_keeps : (s : State) (i : ℕ) → (length (ended s i).backlogs ≡ length s.backlogs) × (length (ended s i).jobs ≡ length s.jobs) × ((ended s i).holder ≤ s.holder)
+      ended_keeps s i = go (eqb s.holder i)
         where
           go : (b : Bool) → (let e : State = cond b (let_go (removed s i)) (removed s i) in (length e.backlogs ≡ length s.backlogs) × (length e.jobs ≡ length s.jobs) × (e.holder ≤ s.holder))
           go true = (refl, length-set s.jobs (i - 1) no_job, omega arith)
           go false = (refl, length-set s.jobs (i - 1) no_job, omega arith)
 
-  step-tick : (s t : Now S) (a : Answer) → In s → DidHere Tick a s t → Stepped Tick a s t
-  step-tick s t a h x =
+  step_tick : (s t : Now S) (a : Answer) → In s → DidHere Tick a s t → Stepped Tick a s t
+  step_tick s t a h x =
       let got = due n m s.state in
       let g = driven.ticked s.bank t.bank x.1 in
-      let y = steady-later m start s.rows h.steady t.rows x.2 in
-      let step = tick-step n d (allowed s.bank) (allowed t.bank) m start s.rows t.rows limits bounds s.state (omega (arith, h.backlogs)) (omega (arith, h.jobs)) h.holder g.1 y.1 in
+      let y = steady_later m start s.rows h.steady t.rows x.2 in
+      let step = tick_step n d (allowed s.bank) (allowed t.bank) m start s.rows t.rows limits bounds s.state (omega (arith, h.backlogs)) (omega (arith, h.jobs)) h.holder g.1 y.1 in
       let to : view_of (allowed t.bank) m t.rows (passed s.state got) ≡ view t = λ i. view_of (allowed t.bank) m t.rows (sym x.3 i) in (
         answered Tick s t a (answers.Ticked got) _ x.0 to step,
         record {
-          parts-are = g.0.count ∙ h.parts-are;
-          demand-is = g.0.demand ∙ h.demand-is;
+          parts_are = g.0.count ∙ h.parts_are;
+          demand_is = g.0.demand ∙ h.demand_is;
           steady = y.0;
-          backlogs = ap (λ z. length z.backlogs) x.3 ∙ passed-backlogs s.state got ∙ h.backlogs;
-          jobs = ap (λ z. length z.jobs) x.3 ∙ passed-jobs s.state got ∙ h.jobs;
-          holder = omega (arith, ap (λ z. z.holder) x.3, passed-holder s.state got m h.holder);
+          backlogs = ap (λ z. length z.backlogs) x.3 ∙ passed_backlogs s.state got ∙ h.backlogs;
+          jobs = ap (λ z. length z.jobs) x.3 ∙ passed_jobs s.state got ∙ h.jobs;
+          holder = omega (arith, ap (λ z. z.holder) x.3, passed_holder s.state got m h.holder);
         },
       )
 
   step : (s t : Now S) (c : Call) (a : Answer) → In s → DidHere c a s t → Stepped c a s t
-  step s t (Offer k u) a h did = step-offer s t k u a h did
-  step s t (Release i u) a h did = step-release s t i u a h did
-  step s t (Hold i u) a h did = step-hold s t i u a h did
-  step s t (LetGo i) a h did = step-let_go s t i a h did
-  step s t (End i) a h did = step-end s t i a h did
-  step s t Tick a h did = step-tick s t a h did
+  step s t (Offer k u) a h did = step_offer s t k u a h did
+  step s t (Release i u) a h did = step_release s t i u a h did
+  step s t (Hold i u) a h did = step_hold s t i u a h did
+  step s t (LetGo i) a h did = step_let_go s t i a h did
+  step s t (End i) a h did = step_end s t i a h did
+  step s t Tick a h did = step_tick s t a h did
 
   -- one call after another
   pub leads : (calls : List Call) (as' : List Answer) (s t : Now S) → In s → Played allowed takes ticks fixed calls as' s t → Leads plan (view s) (log_of calls as') (view t)

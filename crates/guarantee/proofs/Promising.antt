@@ -23,31 +23,31 @@ use Rattle.guarantee.specs.Playing.{Now, Played}
 use Rattle.guarantee.specs.Promise.{Acceptable, Modelled, begun}
 use Rattle.guarantee.specs.Views.{plan_of, view_of}
 use Rattle.guarantee.proofs.Linking.{Inside, leads, fits}
-use Rattle.guarantee.proofs.Steady.{steady-start}
+use Rattle.guarantee.proofs.Steady.{steady_start}
 
 -- the verdict on an acceptable plan is that it is accepted
-pub acceptable-accepted : (d : ℕ → ℕ → ℕ) (n : ℕ) (limits : List Limit) (m : ℕ) (rows : List Row) (v : Verdict) (bounds : List ℕ) → Judged d n limits m rows v bounds → Acceptable d n limits m rows → is_accepted v ≡ true
-acceptable-accepted d n limits m rows (Accepted k) bounds j ok = refl
-acceptable-accepted d n limits m rows NotJudgeable bounds j ok = elim j [ inl none ↦ absurd (omega (arith, ok.0)) | inr many ↦ absurd (omega (arith, ok.1)) ]
-acceptable-accepted d n limits m rows (Late k) bounds j ok =
+pub acceptable_accepted : (d : ℕ → ℕ → ℕ) (n : ℕ) (limits : List Limit) (m : ℕ) (rows : List Row) (v : Verdict) (bounds : List ℕ) → Judged d n limits m rows v bounds → Acceptable d n limits m rows → is_accepted v ≡ true
+acceptable_accepted d n limits m rows (Accepted k) bounds j ok = refl
+acceptable_accepted d n limits m rows NotJudgeable bounds j ok = elim j [ inl none ↦ absurd (omega (arith, ok.0)) | inr many ↦ absurd (omega (arith, ok.1)) ]
+acceptable_accepted d n limits m rows (Late k) bounds j ok =
     let place : k - 1 < m = omega (arith, j.1, j.2) in
     let w = ok.2 (k - 1) place in
     let never = j.4 (k - 1) (omega (arith, j.1)) w.0 w.1 w.3 in
     absurd (omega (arith, w.2, never))
 
 -- the bounds of an accepted plan
-pub accepted-bounds : (d : ℕ → ℕ → ℕ) (n : ℕ) (limits : List Limit) (m : ℕ) (rows : List Row) (v : Verdict) (bounds : List ℕ) → Judged d n limits m rows v bounds → is_accepted v ≡ true → (n ≤ 16) × ((i : ℕ) → i < m → Bounded d n limits m rows i (get_or bounds i 0))
-accepted-bounds d n limits m rows (Accepted k) bounds j ok = (j.2, j.3)
-accepted-bounds d n limits m rows NotJudgeable bounds j ok = let z : ◌≡◌ {A = ℕ} 0 1 = cc in absurd (omega arith)
-accepted-bounds d n limits m rows (Late k) bounds j ok = let z : ◌≡◌ {A = ℕ} 0 1 = cc in absurd (omega arith)
+pub accepted_bounds : (d : ℕ → ℕ → ℕ) (n : ℕ) (limits : List Limit) (m : ℕ) (rows : List Row) (v : Verdict) (bounds : List ℕ) → Judged d n limits m rows v bounds → is_accepted v ≡ true → (n ≤ 16) × ((i : ℕ) → i < m → Bounded d n limits m rows i (get_or bounds i 0))
+accepted_bounds d n limits m rows (Accepted k) bounds j ok = (j.2, j.3)
+accepted_bounds d n limits m rows NotJudgeable bounds j ok = let z : ◌≡◌ {A = ℕ} 0 1 = cc in absurd (omega arith)
+accepted_bounds d n limits m rows (Late k) bounds j ok = let z : ◌≡◌ {A = ℕ} 0 1 = cc in absurd (omega arith)
 
 -- a list of one value alone reads as that value
-pub all-same : {A : Type 0} (n i : ℕ) (d : A) → get_or (replicate n d) i d ≡ d
-all-same n i d = elim (cases_lt i n) [ inl within ↦ get_or-replicate n i d d within | inr past ↦ get_or-eq_default (replicate n d) d (omega (arith, length-replicate n d)) ]
+pub all_same : {A : Type 0} (n i : ℕ) (d : A) → get_or (replicate n d) i d ≡ d
+all_same n i d = elim (cases_lt i n) [ inl within ↦ get_or-replicate n i d d within | inr past ↦ get_or-eq_default (replicate n d) d (omega (arith, length-replicate n d)) ]
 
-either-zero : (b : Bool) (x : ℕ) → x ≡ 0 → cond b x 0 ≡ 0
-either-zero true x h = h
-either-zero false x h = refl
+either_zero : (b : Bool) (x : ℕ) → x ≡ 0 → cond b x 0 ≡ 0
+either_zero true x h = h
+either_zero false x h = refl
 
 module _ {S : Type 0} (parts : S → ℕ) (demanded allowed : S → ℕ → ℕ → ℕ) (takes : S → ℕ → ℕ → S → Type 0) (ticks : S → S → Type 0)
     (sound : (s : S) → Sound (parts s) (demanded s) (allowed s)) (driven : Driven parts demanded allowed takes ticks)
@@ -57,13 +57,13 @@ module _ {S : Type 0} (parts : S → ℕ) (demanded allowed : S → ℕ → ℕ 
     (holds : (i j : ℕ) → i < j → j < m → (limit_at limits j).hold ≤ (limit_at limits i).blocking)
     (judged : Judged (demanded bank) (parts bank) limits m rows v bounds) (accepted : is_accepted v ≡ true) where
   right : (parts bank ≤ 16) × ((i : ℕ) → i < m → Bounded (demanded bank) (parts bank) limits m rows i (get_or bounds i 0))
-  right = accepted-bounds (demanded bank) (parts bank) limits m rows v bounds judged accepted
+  right = accepted_bounds (demanded bank) (parts bank) limits m rows v bounds judged accepted
 
   abbrev plan : model.Plan
   plan = plan_of (parts bank) (demanded bank) m rows limits bounds
 
-  model-accepted : model.Accepted plan
-  model-accepted =
+  model_accepted : model.Accepted plan
+  model_accepted =
       record {
         some = λ i a b. (right.1 (i - 1) (omega arith)).0.some;
         holds = λ i a b. (right.1 (i - 1) (omega arith)).0.holds;
@@ -72,14 +72,14 @@ module _ {S : Type 0} (parts : S → ℕ) (demanded allowed : S → ℕ → ℕ 
       }
 
   inside : Inside parts demanded (parts bank) (demanded bank) m rows (begun bank rows)
-  inside = record { parts-are = refl; demand-is = refl; steady = steady-start m rows room fit; backlogs = refl; jobs = refl; holder = omega arith }
+  inside = record { parts_are = refl; demand_is = refl; steady = steady_start m rows room fit; backlogs = refl; jobs = refl; holder = omega arith }
 
   fresh : model.Fresh (view_of (allowed bank) m rows at_start)
   fresh =
       record {
-        backlog = λ k. either-zero (leb 1 k) (get_or (replicate 16 0) (k - 1) 0) (all-same 16 (k - 1) 0);
-        left = λ i. either-zero (leb 1 i) (get_or (replicate 16 no_job) (i - 1) no_job).left (ap (λ j. j.left) (all-same 16 (i - 1) no_job));
-        age = λ i. either-zero (leb 1 i) (get_or (replicate 16 no_job) (i - 1) no_job).age (ap (λ j. j.age) (all-same 16 (i - 1) no_job));
+        backlog = λ k. either_zero (leb 1 k) (get_or (replicate 16 0) (k - 1) 0) (all_same 16 (k - 1) 0);
+        left = λ i. either_zero (leb 1 i) (get_or (replicate 16 no_job) (i - 1) no_job).left (ap (λ j. j.left) (all_same 16 (i - 1) no_job));
+        age = λ i. either_zero (leb 1 i) (get_or (replicate 16 no_job) (i - 1) no_job).age (ap (λ j. j.age) (all_same 16 (i - 1) no_job));
         holder = refl;
         held = refl;
       }
@@ -89,12 +89,12 @@ module _ {S : Type 0} (parts : S → ℕ) (demanded allowed : S → ℕ → ℕ 
   modelled calls as' t played =
       let bounded : (i : ℕ) → i < m → get_or bounds i 0 ≤ (limit_at limits i).deadline = λ i h. (right.1 i h).1 in
       record {
-        accepted = model-accepted;
+        accepted = model_accepted;
         fresh = fresh;
         fits = fits parts demanded allowed takes ticks sound driven (parts bank) (demanded bank) m rows limits bounds right.0 few deadlines bounded (begun bank rows) inside;
         leads = leads parts demanded allowed takes ticks sound driven (parts bank) (demanded bank) m rows limits bounds right.0 few deadlines bounded calls as' (begun bank rows) t inside played;
       }
 
 -- the log of what the model does keeps both rules
-pub model-keeps : (p : model.Plan) (s t : model.State) (log : List Event) → Modelled p s t log → NeverLate p.bound log × NeverMore p.demand p.task_demand log
-model-keeps p s t log h = guaranteed p h.accepted s t log h.fresh h.fits h.leads
+pub model_keeps : (p : model.Plan) (s t : model.State) (log : List Event) → Modelled p s t log → NeverLate p.bound log × NeverMore p.demand p.task_demand log
+model_keeps p s t log h = guaranteed p h.accepted s t log h.fresh h.fits h.leads

@@ -13,14 +13,14 @@ use Rattle.paced.specs.Tables.{row_at, allowances_of}
 use Rattle.guarantee.specs.Views.{plan_of, view_of}
 use Rattle.run.proofs.Faults.{Holdable, Releasable}
 use Rattle.run.proofs.Firsts.{first}
-use Rattle.run.proofs.Numbered.{numbered-set}
+use Rattle.run.proofs.Numbered.{numbered_set}
 
 module _ (m : ℕ) (rows : List Row) (s : State) where
-  pub offered-step : (a a' : ℕ → ℕ → ℕ) (k u : ℕ) → 1 ≤ k → k ≤ length s.backlogs → Taken a k u a' → Offered (view_of a m rows s) k u (view_of a' m rows (grown s k u))
-  offered-step a a' k u some within taken =
+  pub offered_step : (a a' : ℕ → ℕ → ℕ) (k u : ℕ) → 1 ≤ k → k ≤ length s.backlogs → Taken a k u a' → Offered (view_of a m rows s) k u (view_of a' m rows (grown s k u))
+  offered_step a a' k u some within taken =
       record {
         taken = taken;
-        backlog = λ j. numbered-set 0 (λ x. x) s.backlogs k (backlog_of s.backlogs k + u) j some within ∙ same j;
+        backlog = λ j. numbered_set 0 (λ x. x) s.backlogs k (backlog_of s.backlogs k + u) j some within ∙ same j;
         rest = refl;
       }
     where
@@ -32,26 +32,26 @@ module _ (m : ℕ) (rows : List Row) (s : State) where
             ∙ sym (cond-false (eqb j k) (backlog_of s.backlogs j + u) (backlog_of s.backlogs j) (ne_eqb j k ne))
       ]
 
-  pub ended-left : (i j : ℕ) → 1 ≤ i → i ≤ length s.jobs → left_of (set s.jobs (i - 1) no_job) j ≡ cond (eqb j i) 0 (left_of s.jobs j)
-  ended-left i j some within = numbered-set no_job (λ x. x.left) s.jobs i no_job j some within
+  pub ended_left : (i j : ℕ) → 1 ≤ i → i ≤ length s.jobs → left_of (set s.jobs (i - 1) no_job) j ≡ cond (eqb j i) 0 (left_of s.jobs j)
+  ended_left i j some within = numbered_set no_job (λ x. x.left) s.jobs i no_job j some within
 
-  pub ended-age : (i j : ℕ) → 1 ≤ i → i ≤ length s.jobs → age_of (set s.jobs (i - 1) no_job) j ≡ cond (eqb j i) 0 (age_of s.jobs j)
-  ended-age i j some within = numbered-set no_job (λ x. x.age) s.jobs i no_job j some within
+  pub ended_age : (i j : ℕ) → 1 ≤ i → i ≤ length s.jobs → age_of (set s.jobs (i - 1) no_job) j ≡ cond (eqb j i) 0 (age_of s.jobs j)
+  ended_age i j some within = numbered_set no_job (λ x. x.age) s.jobs i no_job j some within
 
-  pub let_go-step : (a : ℕ → ℕ → ℕ) (i : ℕ) → s.holder ≡ i → LetGone (view_of a m rows s) i (view_of a m rows (let_go s))
-  let_go-step a i holds = record { holds = holds; rest = refl }
+  pub let_go_step : (a : ℕ → ℕ → ℕ) (i : ℕ) → s.holder ≡ i → LetGone (view_of a m rows s) i (view_of a m rows (let_go s))
+  let_go_step a i holds = record { holds = holds; rest = refl }
 
-  pub ended-step : (a : ℕ → ℕ → ℕ) (i : ℕ) → 1 ≤ i → i ≤ length s.jobs → 1 ≤ left_of s.jobs i → Ended (view_of a m rows s) i (view_of a m rows (ended s i))
-  ended-step a i some within pending =
+  pub ended_step : (a : ℕ → ℕ → ℕ) (i : ℕ) → 1 ≤ i → i ≤ length s.jobs → 1 ≤ left_of s.jobs i → Ended (view_of a m rows s) i (view_of a m rows (ended s i))
+  ended_step a i some within pending =
       cond_both (eqb s.holder i) (let_go (removed s i)) (removed s i) (λ t. Ended (view_of a m rows s) i (view_of a m rows t))
-      (λ e. left-with 0 0 (sym (cond-true (eqb s.holder i) 0 s.holder e)) (sym (cond-true (eqb s.holder i) 0 s.held e)))
-      (λ e. left-with s.holder s.held (sym (cond-false (eqb s.holder i) 0 s.holder e)) (sym (cond-false (eqb s.holder i) 0 s.held e)))
+      (λ e. left_with 0 0 (sym (cond-true (eqb s.holder i) 0 s.holder e)) (sym (cond-true (eqb s.holder i) 0 s.held e)))
+      (λ e. left_with s.holder s.held (sym (cond-false (eqb s.holder i) 0 s.holder e)) (sym (cond-false (eqb s.holder i) 0 s.held e)))
     where
-      left-with : (holder held : ℕ) → holder ≡ cond (eqb s.holder i) 0 s.holder → held ≡ cond (eqb s.holder i) 0 s.held → Ended (view_of a m rows s) i (view_of a m rows (record { backlogs = s.backlogs; jobs = set s.jobs (i - 1) no_job; holder = holder; held = held }))
-      left-with _ _ holder held = record { pending = pending; left = λ j. ended-left i j some within; age = λ j. ended-age i j some within; holder = holder; held = held; rest = refl }
+      left_with : (holder held : ℕ) → holder ≡ cond (eqb s.holder i) 0 s.holder → held ≡ cond (eqb s.holder i) 0 s.held → Ended (view_of a m rows s) i (view_of a m rows (record { backlogs = s.backlogs; jobs = set s.jobs (i - 1) no_job; holder = holder; held = held }))
+      left_with _ _ holder held = record { pending = pending; left = λ j. ended_left i j some within; age = λ j. ended_age i j some within; holder = holder; held = held; rest = refl }
 
-  pub granted-step : (start : List Row) (n : ℕ) (d a : ℕ → ℕ → ℕ) (limits : List Limit) (bounds : List ℕ) (i u : ℕ) → Holdable m limits s i u → Granted (plan_of n d m start limits bounds) (view_of a m rows s) i u (view_of a m rows (granted s i u))
-  granted-step start n d a limits bounds i u task =
+  pub granted_step : (start : List Row) (n : ℕ) (d a : ℕ → ℕ → ℕ) (limits : List Limit) (bounds : List ℕ) (i u : ℕ) → Holdable m limits s i u → Granted (plan_of n d m start limits bounds) (view_of a m rows s) i u (view_of a m rows (granted s i u))
+  granted_step start n d a limits bounds i u task =
       record {
         first = task.first;
         last = task.last;
@@ -63,8 +63,8 @@ module _ (m : ℕ) (rows : List Row) (s : State) where
         rest = refl;
       }
 
-  pub released-step : (start : List Row) (n : ℕ) (d a : ℕ → ℕ → ℕ) (limits : List Limit) (bounds : List ℕ) (rows' : List Row) (most i u : ℕ) → Releasable m most s.jobs i u → i ≤ length s.jobs → Taken (allowances_of m (row_at rows)) i u (allowances_of m (row_at rows')) → Released (plan_of n d m start limits bounds) (view_of a m rows s) i u (view_of a m rows' (released s i u))
-  released-step start n d a limits bounds rows' most i u task within taken =
+  pub released_step : (start : List Row) (n : ℕ) (d a : ℕ → ℕ → ℕ) (limits : List Limit) (bounds : List ℕ) (rows' : List Row) (most i u : ℕ) → Releasable m most s.jobs i u → i ≤ length s.jobs → Taken (allowances_of m (row_at rows)) i u (allowances_of m (row_at rows')) → Released (plan_of n d m start limits bounds) (view_of a m rows s) i u (view_of a m rows' (released s i u))
+  released_step start n d a limits bounds rows' most i u task within taken =
       let job : Job = record { left = u; age = 0 } in
       record {
         first = task.first;
@@ -72,7 +72,7 @@ module _ (m : ℕ) (rows : List Row) (s : State) where
         some = task.some;
         none = task.none;
         taken = taken;
-        left = λ j. numbered-set no_job (λ x. x.left) s.jobs i job j task.first within;
-        age = λ j. numbered-set no_job (λ x. x.age) s.jobs i job j task.first within;
+        left = λ j. numbered_set no_job (λ x. x.left) s.jobs i job j task.first within;
+        age = λ j. numbered_set no_job (λ x. x.age) s.jobs i job j task.first within;
         rest = refl;
       }

@@ -12,31 +12,31 @@ pub front_of : (rest : List ℕ) → 1 ≤ length rest → front rest ≡ value_
 front_of [] h = absurd (omega arith)
 front_of (x ∷ xs) h = sym (ap (λ ys. value_of (before 32 ys)) (take_rest (x ∷ xs) 1))
 
-pub behind-of : (rest : List ℕ) → 1 ≤ length rest → behind rest ≡ onward 32 (take (length rest - 1) (drop 1 rest))
-behind-of [] h = absurd (omega arith)
-behind-of (x ∷ xs) h = sym (ap (onward 32) (take_rest (x ∷ xs) 1))
+pub behind_of : (rest : List ℕ) → 1 ≤ length rest → behind rest ≡ onward 32 (take (length rest - 1) (drop 1 rest))
+behind_of [] h = absurd (omega arith)
+behind_of (x ∷ xs) h = sym (ap (onward 32) (take_rest (x ∷ xs) 1))
 
 -- what follows a word is shorter
-onward-short : (s : ℕ) (xs : List ℕ) → length (onward s xs) ≤ length xs
-onward-short s [] = omega arith
-onward-short s (x ∷ xs) = elim (eqb x s) as (λ b. length (cond b (x ∷ xs) (onward s xs)) ≤ suc (length xs)) [ true ↦ omega arith | false ↦ omega (arith, onward-short s xs) ]
+onward_short : (s : ℕ) (xs : List ℕ) → length (onward s xs) ≤ length xs
+onward_short s [] = omega arith
+onward_short s (x ∷ xs) = elim (eqb x s) as (λ b. length (cond b (x ∷ xs) (onward s xs)) ≤ suc (length xs)) [ true ↦ omega arith | false ↦ omega (arith, onward_short s xs) ]
 
-pub some-left : (rest : List ℕ) → false ≡ eqb (length rest) 0 → 1 ≤ length rest
-some-left rest e = omega (arith, eqb-false (length rest) 0 (sym e))
+pub some_left : (rest : List ℕ) → false ≡ eqb (length rest) 0 → 1 ≤ length rest
+some_left rest e = omega (arith, eqb-false (length rest) 0 (sym e))
 
-pub behind-short : (rest : List ℕ) → 1 ≤ length rest → length (behind rest) < length rest
-behind-short [] h = absurd (omega arith)
-behind-short (x ∷ xs) h = omega (arith, onward-short 32 xs)
+pub behind_short : (rest : List ℕ) → 1 ≤ length rest → length (behind rest) < length rest
+behind_short [] h = absurd (omega arith)
+behind_short (x ∷ xs) h = omega (arith, onward_short 32 xs)
 
 -- one cost more in the table of nine
-pub pushed-is : (ns : List ℕ) (n : ℕ) → cond (ltb (min 9 (length ns)) 9) (record { numbers = set (take 9 ns ++ replicate (9 - length ns) 0) (min 9 (length ns)) n; count = min 9 (length ns) + 1 }) (costs_of ns) ≡ costs_of (ns ++ n ∷ [])
-pushed-is ns n = elim (cases_lt (length ns) 9) [ inl room ↦ with-room room | inr full ↦ without full ]
+pub pushed_is : (ns : List ℕ) (n : ℕ) → cond (ltb (min 9 (length ns)) 9) (record { numbers = set (take 9 ns ++ replicate (9 - length ns) 0) (min 9 (length ns)) n; count = min 9 (length ns) + 1 }) (costs_of ns) ≡ costs_of (ns ++ n ∷ [])
+pushed_is ns n = elim (cases_lt (length ns) 9) [ inl room ↦ with_room room | inr full ↦ without full ]
   where
     long : length (ns ++ n ∷ []) ≡ length ns + 1
     long = length_push ns n
 
-    with-room : length ns < 9 → cond (ltb (min 9 (length ns)) 9) (record { numbers = set (take 9 ns ++ replicate (9 - length ns) 0) (min 9 (length ns)) n; count = min 9 (length ns) + 1 }) (costs_of ns) ≡ costs_of (ns ++ n ∷ [])
-    with-room h =
+    with_room : length ns < 9 → cond (ltb (min 9 (length ns)) 9) (record { numbers = set (take 9 ns ++ replicate (9 - length ns) 0) (min 9 (length ns)) n; count = min 9 (length ns) + 1 }) (costs_of ns) ≡ costs_of (ns ++ n ∷ [])
+    with_room h =
         let place : min 9 (length ns) ≡ length ns = omega arith in
         let left : 9 - length ns ≡ suc (9 - (length ns + 1)) = omega arith in
         let test : ltb (min 9 (length ns)) 9 ≡ true = lt-ltb (min 9 (length ns)) 9 (omega arith) in

@@ -7,15 +7,15 @@ use Rattle.paced.specs.Pace.{Fit}
 use Rattle.paced.specs.Makes.{in_range, all_in_range, given_right, fault_of, fresh, adding}
 
 -- the costs are looked at one after another
-pub range-first : (xs : List ℕ) (i : ℕ) → i < length xs → all_in_range (drop i xs) ≡ (in_range (get_or xs i 0) && all_in_range (drop (i + 1) xs))
-range-first xs i h = at_drop_more all_in_range xs i 0 h
+pub range_first : (xs : List ℕ) (i : ℕ) → i < length xs → all_in_range (drop i xs) ≡ (in_range (get_or xs i 0) && all_in_range (drop (i + 1) xs))
+range_first xs i h = at_drop_more all_in_range xs i 0 h
 
 pub range_last : (xs : List ℕ) (i : ℕ) → length xs ≤ i → all_in_range (drop i xs) ≡ true
 range_last xs i h = ap all_in_range (drop_all i xs h)
 
 -- a cost is put in the place of the first 0 behind those that are there
-pub padded-more : (xs : List ℕ) (i : ℕ) → i < length xs → i < 8 → set (take i xs ++ replicate (8 - i) 0) i (get_or xs i 0) ≡ take (i + 1) xs ++ replicate (8 - (i + 1)) 0
-padded-more xs i h small =
+pub padded_more : (xs : List ℕ) (i : ℕ) → i < length xs → i < 8 → set (take i xs ++ replicate (8 - i) 0) i (get_or xs i 0) ≡ take (i + 1) xs ++ replicate (8 - (i + 1)) 0
+padded_more xs i h small =
     ap (λ n. set (take i xs ++ replicate n 0) i (get_or xs i 0)) one
     ∙ set_at (take i xs) 0 (replicate (8 - (i + 1)) 0) (get_or xs i 0) i (length-take-le i xs (omega arith))
     ∙ sym (ap (λ ys. ys ++ replicate (8 - (i + 1)) 0) (take_more xs i 0 h) ∙ append_assoc (take i xs) (get_or xs i 0 ∷ []) (replicate (8 - (i + 1)) 0))
@@ -31,43 +31,43 @@ range_at [] e (suc i) = omega arith
 range_at (x ∷ xs) e zero = leb-true x 1000000 (and_parts (leb 1 x) (leb x 1000000) (and_parts (in_range x) (all_in_range xs) e).0).1
 range_at (x ∷ xs) e (suc i) = range_at xs (and_parts (in_range x) (all_in_range xs) e).1 i
 
-padded-small : (xs : List ℕ) (n : ℕ) → ((i : ℕ) → get_or xs i 0 ≤ 1000000) → (i : ℕ) → get_or (xs ++ replicate n 0) i 0 ≤ 1000000
-padded-small [] zero h i = h i
-padded-small [] (suc n) h zero = omega arith
-padded-small [] (suc n) h (suc i) = padded-small [] n h i
-padded-small (x ∷ xs) n h zero = h zero
-padded-small (x ∷ xs) n h (suc i) = padded-small xs n (λ j. h (suc j)) i
+padded_small : (xs : List ℕ) (n : ℕ) → ((i : ℕ) → get_or xs i 0 ≤ 1000000) → (i : ℕ) → get_or (xs ++ replicate n 0) i 0 ≤ 1000000
+padded_small [] zero h i = h i
+padded_small [] (suc n) h zero = omega arith
+padded_small [] (suc n) h (suc i) = padded_small [] n h i
+padded_small (x ∷ xs) n h zero = h zero
+padded_small (x ∷ xs) n h (suc i) = padded_small xs n (λ j. h (suc j)) i
 
 -- a test that was passed on the way to no fault
 pub passed : {F : Type 0} (b : Bool) (x : Option F) (f : F) → cond b x (Some f) ≡ None → (b ≡ true) × (x ≡ None)
 passed true x f e = (refl, e)
 passed false x f e = let z : ◌≡◌ {A = ℕ} 0 1 = cc in absurd (omega arith)
 
-pub fresh-fit : (t j : ℕ) (xs : List ℕ) → fault_of t j xs ≡ None → Fit (fresh t j xs)
-fresh-fit t j xs e =
+pub fresh_fit : (t j : ℕ) (xs : List ℕ) → fault_of t j xs ≡ None → Fit (fresh t j xs)
+fresh_fit t j xs e =
     record {
-      paces = (leb-true 1 t t-in.0, leb-true t 1000000 t-in.1, ltb-true j t below);
+      paces = (leb-true 1 t t_in.0, leb-true t 1000000 t_in.1, ltb-true j t below);
       places = (held, few, leb-true 1 (length xs) some.0, omega arith);
-      costs = padded-small xs (8 - length xs) (range_at xs some.1);
+      costs = padded_small xs (8 - length xs) (range_at xs some.1);
     }
   where
-    after-length : (leb (length xs) 8 ≡ true) × (cond (given_right t j xs) (cond (ltb j t) None (Some Misfit)) (Some OutOfRange) ≡ None)
-    after-length = passed (leb (length xs) 8) (cond (given_right t j xs) (cond (ltb j t) None (Some Misfit)) (Some OutOfRange)) TooMany e
+    after_length : (leb (length xs) 8 ≡ true) × (cond (given_right t j xs) (cond (ltb j t) None (Some Misfit)) (Some OutOfRange) ≡ None)
+    after_length = passed (leb (length xs) 8) (cond (given_right t j xs) (cond (ltb j t) None (Some Misfit)) (Some OutOfRange)) TooMany e
 
-    after-numbers : (given_right t j xs ≡ true) × (cond (ltb j t) None (Some Misfit) ≡ None)
-    after-numbers = passed (given_right t j xs) (cond (ltb j t) None (Some Misfit)) OutOfRange after-length.1
+    after_numbers : (given_right t j xs ≡ true) × (cond (ltb j t) None (Some Misfit) ≡ None)
+    after_numbers = passed (given_right t j xs) (cond (ltb j t) None (Some Misfit)) OutOfRange after_length.1
 
     right : given_right t j xs ≡ true
-    right = after-numbers.0
+    right = after_numbers.0
 
     below : ltb j t ≡ true
-    below = (passed (ltb j t) None Misfit after-numbers.1).0
+    below = (passed (ltb j t) None Misfit after_numbers.1).0
 
     few : length xs ≤ 8
-    few = leb-true (length xs) 8 after-length.0
+    few = leb-true (length xs) 8 after_length.0
 
-    t-in : (leb 1 t ≡ true) × (leb t 1000000 ≡ true)
-    t-in = and_parts (leb 1 t) (leb t 1000000) (and_parts (in_range t) (leb j 1000000 && (leb 1 (length xs) && all_in_range xs)) right).0
+    t_in : (leb 1 t ≡ true) × (leb t 1000000 ≡ true)
+    t_in = and_parts (leb 1 t) (leb t 1000000) (and_parts (in_range t) (leb j 1000000 && (leb 1 (length xs) && all_in_range xs)) right).0
 
     some : (leb 1 (length xs) ≡ true) × (all_in_range xs ≡ true)
     some = and_parts (leb 1 (length xs)) (all_in_range xs) (and_parts (leb j 1000000) (leb 1 (length xs) && all_in_range xs) (and_parts (in_range t) (leb j 1000000 && (leb 1 (length xs) && all_in_range xs)) right).1).1
@@ -76,5 +76,5 @@ fresh-fit t j xs e =
     held = length-append xs (replicate (8 - length xs) 0) ∙ ap (λ n. length xs + n) (length-replicate (8 - length xs) 0) ∙ omega (arith, few)
 
 -- where a small table has room, a larger one finds the same fault
-pub adding-same : (most more n t j : ℕ) (xs : List ℕ) → n < most → n < more → adding most n t j xs ≡ adding more n t j xs
-adding-same most more n t j xs h i = cond-true (ltb n most) (fault_of t j xs) (Some TooMany) (lt-ltb n most h) ∙ sym (cond-true (ltb n more) (fault_of t j xs) (Some TooMany) (lt-ltb n more i))
+pub adding_same : (most more n t j : ℕ) (xs : List ℕ) → n < most → n < more → adding most n t j xs ≡ adding more n t j xs
+adding_same most more n t j xs h i = cond-true (ltb n most) (fault_of t j xs) (Some TooMany) (lt-ltb n most h) ∙ sym (cond-true (ltb n more) (fault_of t j xs) (Some TooMany) (lt-ltb n more i))

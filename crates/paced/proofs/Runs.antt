@@ -3,7 +3,7 @@ use Rattle.std.proofs.Common.{◌≡◌, ℕ, zero, suc, ◌+◌, ◌-◌, ◌*�
 use Rattle.std.proofs.lemmas.List.{length-take-le, get_or-take}
 use Rattle.std.proofs.lemmas.Bool.{lt-ltb}
 use Rattle.cycles.specs.Round.{sum, top, met, onward}
-use Rattle.cycles.proofs.Rounds.{top-on, met-slides, met-least, onward-at, onward-within, sum_same, met-same, top-same}
+use Rattle.cycles.proofs.Rounds.{top_on, met_slides, met_least, onward_at, onward_within, sum_same, met_same, top_same}
 use Rattle.paced.specs.Runs.{at, largest, largest_from}
 
 -- place i of a cycle of n, where a loop over the places stands; after the last it is the first again
@@ -14,58 +14,58 @@ pub turn_at : (n i : ℕ) → i < n → turn n i ≡ i
 turn_at n i h = ap (λ b. cond b i 0) (lt-ltb i n h)
 
 -- a window of m costs slides round the cycle: w is its sum as place i is looked at, and b the largest so far
-module _ (xs : List ℕ) (m i w b : ℕ) (within : i < length xs) (short : m < length xs) (w-is : w ≡ met (length xs) (at xs) (turn (length xs) i) m) where
-  w-here : w ≡ met (length xs) (at xs) i m
-  w-here = w-is ∙ ap (λ k. met (length xs) (at xs) k m) (turn_at (length xs) i within)
+module _ (xs : List ℕ) (m i w b : ℕ) (within : i < length xs) (short : m < length xs) (w_is : w ≡ met (length xs) (at xs) (turn (length xs) i) m) where
+  w_here : w ≡ met (length xs) (at xs) i m
+  w_here = w_is ∙ ap (λ k. met (length xs) (at xs) k m) (turn_at (length xs) i within)
 
-  pub window-small : ((p : ℕ) → at xs p ≤ 1000000) → w ≤ m * 1000000
-  window-small h = omega (arith, w-here, met-least (length xs) (at xs) 1000000 i m h)
+  pub window_small : ((p : ℕ) → at xs p ≤ 1000000) → w ≤ m * 1000000
+  window_small h = omega (arith, w_here, met_least (length xs) (at xs) 1000000 i m h)
 
   -- e is the place after the window
   end_is : (e : ℕ) → e ≡ cond (ltb (i + m) (length xs)) (i + m) (i + m - length xs) → e ≡ onward (length xs) i m
-  end_is e p = p ∙ sym (onward-at (length xs) i m within short)
+  end_is e p = p ∙ sym (onward_at (length xs) i m within short)
 
-  pub end-within : (e : ℕ) → e ≡ cond (ltb (i + m) (length xs)) (i + m) (i + m - length xs) → e < length xs
-  end-within e p = omega (arith, end_is e p, onward-within (length xs) i m within)
+  pub end_within : (e : ℕ) → e ≡ cond (ltb (i + m) (length xs)) (i + m) (i + m - length xs) → e < length xs
+  end_within e p = omega (arith, end_is e p, onward_within (length xs) i m within)
 
-  pub window-slides : (e : ℕ) → e ≡ cond (ltb (i + m) (length xs)) (i + m) (i + m - length xs) → w + at xs e ≡ at xs i + met (length xs) (at xs) (turn (length xs) (i + 1)) m
-  window-slides e p = omega (arith, w-here, ap (at xs) (end_is e p), met-slides (length xs) (at xs) i m)
+  pub window_slides : (e : ℕ) → e ≡ cond (ltb (i + m) (length xs)) (i + m) (i + m - length xs) → w + at xs e ≡ at xs i + met (length xs) (at xs) (turn (length xs) (i + 1)) m
+  window_slides e p = omega (arith, w_here, ap (at xs) (end_is e p), met_slides (length xs) (at xs) i m)
 
-  pub best-grows : b ≡ largest_from (length xs) xs m i → max b w ≡ largest_from (length xs) xs m (i + 1)
-  best-grows h = omega (arith, h, w-here, top-on (λ p. met (length xs) (at xs) p m) i)
+  pub best_grows : b ≡ largest_from (length xs) xs m i → max b w ≡ largest_from (length xs) xs m (i + 1)
+  best_grows h = omega (arith, h, w_here, top_on (λ p. met (length xs) (at xs) p m) i)
 
 -- the first n of some costs, as a part `costs[0..n]` has them
 
-small-none : (i : ℕ) → get_or {A = ℕ} [] i 0 ≤ 1000000
-small-none zero = omega arith
-small-none (suc i) = omega arith
+small_none : (i : ℕ) → get_or {A = ℕ} [] i 0 ≤ 1000000
+small_none zero = omega arith
+small_none (suc i) = omega arith
 
-small-front : (xs : List ℕ) (n : ℕ) → ((i : ℕ) → at xs i ≤ 1000000) → (i : ℕ) → at (take n xs) i ≤ 1000000
-small-front xs zero h i = small-none i
-small-front [] (suc n) h i = small-none i
-small-front (x ∷ xs) (suc n) h zero = h zero
-small-front (x ∷ xs) (suc n) h (suc i) = small-front xs n (λ j. h (suc j)) i
+small_front : (xs : List ℕ) (n : ℕ) → ((i : ℕ) → at xs i ≤ 1000000) → (i : ℕ) → at (take n xs) i ≤ 1000000
+small_front xs zero h i = small_none i
+small_front [] (suc n) h i = small_none i
+small_front (x ∷ xs) (suc n) h zero = h zero
+small_front (x ∷ xs) (suc n) h (suc i) = small_front xs n (λ j. h (suc j)) i
 
 module _ (xs : List ℕ) (n : ℕ) (short : n ≤ length xs) where
-  front-is : take (n - 0) xs ≡ take n xs
-  front-is = ap (λ k. take k xs) (omega arith)
+  front_is : take (n - 0) xs ≡ take n xs
+  front_is = ap (λ k. take k xs) (omega arith)
 
   pub front_length : length (take (n - 0) xs) ≡ n
-  front_length = ap length front-is ∙ length-take-le n xs short
+  front_length = ap length front_is ∙ length-take-le n xs short
 
-  pub front-small : ((i : ℕ) → at xs i ≤ 1000000) → (i : ℕ) → at (take (n - 0) xs) i ≤ 1000000
-  front-small h i = small-front xs (n - 0) h i
+  pub front_small : ((i : ℕ) → at xs i ≤ 1000000) → (i : ℕ) → at (take (n - 0) xs) i ≤ 1000000
+  front_small h i = small_front xs (n - 0) h i
 
   pub front_at : (i : ℕ) → i < n → at (take (n - 0) xs) i ≡ at xs i
-  front_at i h = ap (λ ys. at ys i) front-is ∙ get_or-take n xs i 0 h
+  front_at i h = ap (λ ys. at ys i) front_is ∙ get_or-take n xs i 0 h
 
-  pub front-sum : sum (at (take (n - 0) xs)) (length (take (n - 0) xs)) ≡ sum (at xs) n
-  front-sum = ap (sum (at (take (n - 0) xs))) front_length ∙ sum_same (at (take (n - 0) xs)) (at xs) n front_at
+  pub front_sum : sum (at (take (n - 0) xs)) (length (take (n - 0) xs)) ≡ sum (at xs) n
+  front_sum = ap (sum (at (take (n - 0) xs))) front_length ∙ sum_same (at (take (n - 0) xs)) (at xs) n front_at
 
-  pub front-largest : (m : ℕ) → largest (length (take (n - 0) xs)) (take (n - 0) xs) m ≡ largest n xs m
-  front-largest m =
+  pub front_largest : (m : ℕ) → largest (length (take (n - 0) xs)) (take (n - 0) xs) m ≡ largest n xs m
+  front_largest m =
       ap (λ k. largest k (take (n - 0) xs) m) front_length
-      ∙ top-same (λ i. met n (at (take (n - 0) xs)) i m) (λ i. met n (at xs) i m) n (λ p l. met-same n (at (take (n - 0) xs)) (at xs) p m front_at l)
+      ∙ top_same (λ i. met n (at (take (n - 0) xs)) i m) (λ i. met n (at xs) i m) n (λ p l. met_same n (at (take (n - 0) xs)) (at xs) p m front_at l)
 
-  pub front-top : top (at (take (n - 0) xs)) (length (take (n - 0) xs)) ≡ top (at xs) n
-  front-top = ap (top (at (take (n - 0) xs))) front_length ∙ top-same (at (take (n - 0) xs)) (at xs) n front_at
+  pub front_top : top (at (take (n - 0) xs)) (length (take (n - 0) xs)) ≡ top (at xs) n
+  front_top = ap (top (at (take (n - 0) xs))) front_length ∙ top_same (at (take (n - 0) xs)) (at xs) n front_at

@@ -5,7 +5,7 @@ ghost use Rattle.paced.specs.Loads.{row_load};
 ghost use Rattle.paced.specs.Makes.{adding, fresh, unused};
 ghost use Rattle.paced.specs.Tables.{row_at, demands_of, allowances_of, Gives, Passes};
 ghost use Rattle.std.proofs.Common.{arith};
-ghost use Rattle.paced.specs.Together.{table-sound, list-taken, list-ticked};
+ghost use Rattle.paced.specs.Together.{table_sound, list_taken, list_ticked};
 
 use crate::table::Table;
 use refusal::{Fault, Refusal};
@@ -65,7 +65,7 @@ impl Source for Rack {
 
     ghost sound = { λ s.
         let t = s.table in
-        table-sound t.count (row_at t.rows) (omega arith) (λ i h. record { paces = t.paces i h; places = t.places i h; costs = t.costs i h }) };
+        table_sound t.count (row_at t.rows) (omega arith) (λ i h. record { paces = t.paces i h; places = t.places i h; costs = t.costs i h }) };
 
     fn count(&self) -> u32 {
         self.table.count()
@@ -86,8 +86,8 @@ impl Gate for Rack {
     ghost ticks = { λ s t. Passes s.table.count s.table.rows t.table.count t.table.rows };
 
     ghost driven = { record {
-      taken = λ s t k u g. list-taken s.table.count s.table.rows k u t.table.count t.table.rows (omega arith) (λ i h. record { paces = s.table.paces i h; places = s.table.places i h; costs = s.table.costs i h }) g;
-      ticked = λ s t g. list-ticked s.table.count s.table.rows t.table.count t.table.rows (omega arith) (λ i h. record { paces = s.table.paces i h; places = s.table.places i h; costs = s.table.costs i h }) g;
+      taken = λ s t k u g. list_taken s.table.count s.table.rows k u t.table.count t.table.rows (omega arith) (λ i h. record { paces = s.table.paces i h; places = s.table.places i h; costs = s.table.costs i h }) g;
+      ticked = λ s t g. list_ticked s.table.count s.table.rows t.table.count t.table.rows (omega arith) (λ i h. record { paces = s.table.paces i h; places = s.table.places i h; costs = s.table.costs i h }) g;
     } };
 
     fn offer(&mut self, part: u32, units: u64) -> bool {

@@ -4,7 +4,7 @@ ghost use Rattle.cycles.specs.Round.{sum, top, met};
 ghost use Rattle.paced.specs.Makes.{in_range, all_in_range, given_right, fault_of, fresh};
 ghost use Rattle.paced.specs.Loads.{row_load};
 ghost use Rattle.paced.specs.Pace.{largest_cost, coming, demand, allowance, given, later, Fit};
-ghost use Rattle.paced.specs.Runs.{at, largest as largest-sum};
+ghost use Rattle.paced.specs.Runs.{at, largest as largest_sum};
 
 use cycles::step;
 use loads::load;
@@ -115,7 +115,7 @@ fn largest_part(costs: &[u32], m: u32) -> u32
     requires few { length costs.now ≤ 8 }
     requires small { (i : ℕ) → at costs.now i ≤ 1000000 }
     requires short { m < length costs.now }
-    ensures { result ≡ largest-sum (length costs.now) costs.now m }
+    ensures { result ≡ largest_sum (length costs.now) costs.now m }
 {
     let mut window = whole(&costs[0..m as usize]);
     let mut best = 0;

@@ -4,7 +4,7 @@ ghost use Rattle.source.specs.Facts.{is_part, offerable, Sound, Kept, Taken, Tic
 ghost use Rattle.paced.specs.Makes.{fault_of, fresh};
 ghost use Rattle.paced.specs.Pace.{Paces, Places, Costs, later};
 ghost use Rattle.paced.specs.Tables.{demands_of, allowances_of, only, GivesOne};
-ghost use Rattle.paced.specs.Together.{single-sound, single-taken, single-ticked};
+ghost use Rattle.paced.specs.Together.{single_sound, single_taken, single_ticked};
 
 use crate::row::Row;
 use refusal::Refusal;
@@ -39,7 +39,7 @@ impl Source for Paced {
 
     ghost allowed = { λ s. allowances_of 1 (only s.row) };
 
-    ghost sound = { λ s. single-sound s.row (record { paces = s.paces; places = s.places; costs = s.costs }) };
+    ghost sound = { λ s. single_sound s.row (record { paces = s.paces; places = s.places; costs = s.costs }) };
 
     fn count(&self) -> u32 {
         1
@@ -68,8 +68,8 @@ impl Gate for Paced {
     ghost ticks = { λ s t. t.row ≡ later s.row };
 
     ghost driven = { record {
-      taken = λ s t k u g. single-taken s.row t.row k u (record { paces = s.paces; places = s.places; costs = s.costs }) g;
-      ticked = λ s t e. single-ticked s.row t.row (record { paces = s.paces; places = s.places; costs = s.costs }) e;
+      taken = λ s t k u g. single_taken s.row t.row k u (record { paces = s.paces; places = s.places; costs = s.costs }) g;
+      ticked = λ s t e. single_ticked s.row t.row (record { paces = s.paces; places = s.places; costs = s.costs }) e;
     } };
 
     fn offer(&mut self, part: u32, units: u64) -> bool {

@@ -6,7 +6,7 @@ ghost use Rattle.paced.specs.Makes.{adding, fresh, unused};
 ghost use Rattle.paced.specs.Pace.{Paces, Places, Costs, largest_cost};
 ghost use Rattle.paced.specs.Tables.{row_at, demands_of, allowances_of, Gives, Passes};
 ghost use Rattle.std.proofs.Common.{arith};
-ghost use Rattle.paced.specs.Together.{table-sound, list-taken, list-ticked};
+ghost use Rattle.paced.specs.Together.{table_sound, list_taken, list_ticked};
 
 use crate::row::{Row, pace_fault};
 use refusal::Fault;
@@ -102,7 +102,7 @@ impl Source for Table {
 
     ghost allowed = { λ s. allowances_of s.count (row_at s.rows) };
 
-    ghost sound = { λ s. table-sound s.count (row_at s.rows) (omega arith) (λ i h. record { paces = s.paces i h; places = s.places i h; costs = s.costs i h }) };
+    ghost sound = { λ s. table_sound s.count (row_at s.rows) (omega arith) (λ i h. record { paces = s.paces i h; places = s.places i h; costs = s.costs i h }) };
 
     fn count(&self) -> u32 {
         self.count
@@ -129,8 +129,8 @@ impl Gate for Table {
     ghost ticks = { λ s t. Passes s.count s.rows t.count t.rows };
 
     ghost driven = { record {
-      taken = λ s t k u g. list-taken s.count s.rows k u t.count t.rows (omega arith) (λ i h. record { paces = s.paces i h; places = s.places i h; costs = s.costs i h }) g;
-      ticked = λ s t g. list-ticked s.count s.rows t.count t.rows (omega arith) (λ i h. record { paces = s.paces i h; places = s.places i h; costs = s.costs i h }) g;
+      taken = λ s t k u g. list_taken s.count s.rows k u t.count t.rows (omega arith) (λ i h. record { paces = s.paces i h; places = s.places i h; costs = s.costs i h }) g;
+      ticked = λ s t g. list_ticked s.count s.rows t.count t.rows (omega arith) (λ i h. record { paces = s.paces i h; places = s.places i h; costs = s.costs i h }) g;
     } };
 
     fn offer(&mut self, part: u32, units: u64) -> bool {

@@ -19,23 +19,23 @@ unbearable limits h (suc n) i l low =
     last : n ≤ i → (limit_at limits n).blocking < h
     last g = let same : i ≡ n = omega arith in omega (arith, ap (λ k. (limit_at limits k).blocking) same)
 
-pub bears-more : (limits : List Limit) (h i : ℕ) → bearable limits h i ≡ true → h ≤ (limit_at limits i).blocking → bearable limits h (i + 1) ≡ true
-bears-more limits h i e l = ap (bearable limits h) (add-one i) ∙ and_from (leb h (limit_at limits i).blocking) (bearable limits h i) (le-leb h (limit_at limits i).blocking l) e
+pub bears_more : (limits : List Limit) (h i : ℕ) → bearable limits h i ≡ true → h ≤ (limit_at limits i).blocking → bearable limits h (i + 1) ≡ true
+bears_more limits h i e l = ap (bearable limits h) (add-one i) ∙ and_from (leb h (limit_at limits i).blocking) (bearable limits h i) (le-leb h (limit_at limits i).blocking l) e
 
-pub bears-each : (limits : List Limit) (h n : ℕ) → bearable limits h n ≡ true → (i : ℕ) → i < n → h ≤ (limit_at limits i).blocking
-bears-each limits h zero e i l = absurd (omega arith)
-bears-each limits h (suc n) e i l =
+pub bears_each : (limits : List Limit) (h n : ℕ) → bearable limits h n ≡ true → (i : ℕ) → i < n → h ≤ (limit_at limits i).blocking
+bears_each limits h zero e i l = absurd (omega arith)
+bears_each limits h (suc n) e i l =
     let p = and_parts (leb h (limit_at limits n).blocking) (bearable limits h n) e in
-    elim (cases_lt i n) [ inl below ↦ bears-each limits h n p.1 i below | inr here ↦ (let same : i ≡ n = omega arith in omega (arith, ap (λ k. (limit_at limits k).blocking) same, leb-true h (limit_at limits n).blocking p.0)) ]
+    elim (cases_lt i n) [ inl below ↦ bears_each limits h n p.1 i below | inr here ↦ (let same : i ≡ n = omega arith in omega (arith, ap (λ k. (limit_at limits k).blocking) same, leb-true h (limit_at limits n).blocking p.0)) ]
 
-bears-same : (xs ys : List Limit) (h n : ℕ) → ((i : ℕ) → i < n → limit_at xs i ≡ limit_at ys i) → bearable xs h n ≡ bearable ys h n
-bears-same xs ys h zero e = refl
-bears-same xs ys h (suc n) e = let below = bears-same xs ys h n (λ i l. e i (omega arith)) in let here = e n (omega arith) in λ j. leb h (here j).blocking && below j
+bears_same : (xs ys : List Limit) (h n : ℕ) → ((i : ℕ) → i < n → limit_at xs i ≡ limit_at ys i) → bearable xs h n ≡ bearable ys h n
+bears_same xs ys h zero e = refl
+bears_same xs ys h (suc n) e = let below = bears_same xs ys h n (λ i l. e i (omega arith)) in let here = e n (omega arith) in λ j. leb h (here j).blocking && below j
 
 -- the limits in use, as a part `limits[0..n]` has them
-pub front-bears : (limits : List Limit) (h n : ℕ) → n ≤ length limits → bearable (take (n - 0) limits) h (length (take (n - 0) limits)) ≡ bearable limits h n
-front-bears limits h n short =
-    ap (bearable (take (n - 0) limits) h) long ∙ bears-same (take (n - 0) limits) limits h n (λ i l. ap (λ ys. limit_at ys i) front ∙ get_or-take n limits i unlimited l)
+pub front_bears : (limits : List Limit) (h n : ℕ) → n ≤ length limits → bearable (take (n - 0) limits) h (length (take (n - 0) limits)) ≡ bearable limits h n
+front_bears limits h n short =
+    ap (bearable (take (n - 0) limits) h) long ∙ bears_same (take (n - 0) limits) limits h n (λ i l. ap (λ ys. limit_at ys i) front ∙ get_or-take n limits i unlimited l)
   where
     front : take (n - 0) limits ≡ take n limits
     front = let same : n - 0 ≡ n = omega arith in ap (λ k. take k limits) same
@@ -44,10 +44,10 @@ front-bears limits h n short =
     long = ap length front ∙ length-take-le n limits short
 
 -- where no fault is found in either of two, none is found in both
-pub first-none : (a b : Option Fault) → first_of a b ≡ None → (a ≡ None) × (b ≡ None)
-first-none None b e = (refl, e)
-first-none (Some f) None e = let z : ◌≡◌ {A = ℕ} 0 1 = cc in absurd (omega arith)
-first-none (Some f) (Some g) e = some (leb (row f).number (row g).number) e
+pub first_none : (a b : Option Fault) → first_of a b ≡ None → (a ≡ None) × (b ≡ None)
+first_none None b e = (refl, e)
+first_none (Some f) None e = let z : ◌≡◌ {A = ℕ} 0 1 = cc in absurd (omega arith)
+first_none (Some f) (Some g) e = some (leb (row f).number (row g).number) e
   where
     some : (t : Bool) → cond t (Some f) (Some g) ≡ None → (Some f ≡ None) × (Some g ≡ None)
     some true q = let z : ◌≡◌ {A = ℕ} 0 1 = cc in absurd (omega arith)

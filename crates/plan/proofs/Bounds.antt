@@ -4,8 +4,8 @@ use Rattle.std.proofs.lemmas.List.{drop_more, take_more, set_at, length-take-le}
 use Rattle.std.proofs.lemmas.Bool.{cases_eq}
 
 -- one bound more, where each so far is right
-pub bound-more : (P : ℕ → ℕ → Type 0) (bounds : List ℕ) (k w : ℕ) → k < length bounds → ((i : ℕ) → i < k → P i (get_or bounds i 0)) → P k w → (i : ℕ) → i < k + 1 → P i (get_or (set bounds k w) i 0)
-bound-more P bounds k w room so_far here i h =
+pub bound_more : (P : ℕ → ℕ → Type 0) (bounds : List ℕ) (k w : ℕ) → k < length bounds → ((i : ℕ) → i < k → P i (get_or bounds i 0)) → P k w → (i : ℕ) → i < k + 1 → P i (get_or (set bounds k w) i 0)
+bound_more P bounds k w room so_far here i h =
     elim (cases_eq i k) [
       | inl e ↦ subst (λ j. P j (get_or (set bounds k w) j 0)) (sym e) (subst (P k) (sym (get_or-set_same bounds k w 0 room)) here)
       | inr ne ↦ subst (P i) (sym (get_or-set_other bounds k i w 0 ne)) (so_far i (omega arith))

@@ -6,10 +6,10 @@ use Rattle.paced.specs.Tables.{row_at, demands_of, allowances_of}
 use Rattle.paced.specs.declared.row.Row.{Row}
 use Rattle.plan.specs.Needs.{needed}
 use Rattle.plan.specs.declared.tasks.Limit.{Limit}
-use Rattle.plan.proofs.Totals.{total-rises}
+use Rattle.plan.proofs.Totals.{total_rises}
 
-pub needed-rises : (n : ℕ) (d a : ℕ → ℕ → ℕ) → Sound n d a → (limits : List Limit) (m : ℕ) (rows : List Row) → Sound m (demands_of m (row_at rows)) (allowances_of m (row_at rows)) → (i l l' : ℕ) → l ≤ l' → needed d n limits m rows i l ≤ needed d n limits m rows i l'
-needed-rises n d a bank limits m rows tasks i l l' h = omega (arith, total-rises n d a bank n l l' h, total-rises m (demands_of m (row_at rows)) (allowances_of m (row_at rows)) tasks i l l' h)
+pub needed_rises : (n : ℕ) (d a : ℕ → ℕ → ℕ) → Sound n d a → (limits : List Limit) (m : ℕ) (rows : List Row) → Sound m (demands_of m (row_at rows)) (allowances_of m (row_at rows)) → (i l l' : ℕ) → l ≤ l' → needed d n limits m rows i l ≤ needed d n limits m rows i l'
+needed_rises n d a bank limits m rows tasks i l l' h = omega (arith, total_rises n d a bank n l l' h, total_rises m (demands_of m (row_at rows)) (allowances_of m (row_at rows)) tasks i l l' h)
 
 module _ (f : ℕ → ℕ) (rises : (l m : ℕ) → l ≤ m → f l ≤ f m) (t : ℕ) (passed : (m : ℕ) → 1 ≤ m → m < t → m < f m) where
   -- every window below what is needed in t is too small

@@ -6,7 +6,7 @@ use Rattle.std.specs.List.{sum}
 use Rattle.refusal.specs.declared.Fault.{Fault}
 use Rattle.refusal.specs.declared.Fault.TheVariants.{NotAccepted, NoSuchNumber, UnitsNotAllowed, BacklogFull, HoldNotGranted, NothingToEnd, JobPending}
 use Rattle.source.specs.Facts.{is_part, offerable, Sound}
-use Rattle.source.proofs.Parts.{part-bounds, offerable-from}
+use Rattle.source.proofs.Parts.{part_bounds, offerable_from}
 use Rattle.paced.proofs.Makings.{passed}
 use Rattle.plan.specs.declared.tasks.Limit.{Limit}
 use Rattle.run.specs.Faults.{offer_fault, release_fault, grantable, hold_fault, let_go_fault, end_fault}
@@ -15,10 +15,10 @@ use Rattle.run.specs.declared.state.Job.{Job}
 use Rattle.run.specs.declared.state.State.{State}
 
 -- a run that is accepted and a task that there is: o is the fault that was found
-task-of : (accepted : Bool) (n i : ℕ) (rest : Option Fault) {o : Option Fault} → o ≡ cond accepted (cond (is_part n i) rest (Some NoSuchNumber)) (Some NotAccepted) → o ≡ None → (1 ≤ i) × (i ≤ n) × (rest ≡ None)
-task-of accepted n i rest e none =
+task_of : (accepted : Bool) (n i : ℕ) (rest : Option Fault) {o : Option Fault} → o ≡ cond accepted (cond (is_part n i) rest (Some NoSuchNumber)) (Some NotAccepted) → o ≡ None → (1 ≤ i) × (i ≤ n) × (rest ≡ None)
+task_of accepted n i rest e none =
     let there = passed (is_part n i) rest NoSuchNumber (passed accepted (cond (is_part n i) rest (Some NoSuchNumber)) NotAccepted (sym e ∙ none)).1 in
-    let bounds = part-bounds n i there.0 in
+    let bounds = part_bounds n i there.0 in
     (bounds.0, bounds.1, there.1)
 
 -- units within what a part may bring are taken: a number that is no part may bring nothing
@@ -26,12 +26,12 @@ pub takeable : (n : ℕ) (d a : ℕ → ℕ → ℕ) → Sound n d a → (k u : 
 takeable n d a sound k u some within = go (is_part n k) refl
   where
     go : (b : Bool) → is_part n k ≡ b → offerable n a k u ≡ true
-    go true e = offerable-from n a k u e some within
+    go true e = offerable_from n a k u e some within
     go false e = absurd (omega (arith, sound.outside k 1 e, sound.within k 1))
 
-pub offer-bounds : (accepted : Bool) (n most : ℕ) (backlogs : List ℕ) (k u : ℕ) {o : Option Fault} → o ≡ offer_fault accepted n most backlogs k u → o ≡ None → (1 ≤ k) × (k ≤ n) × (1 ≤ u) × (u ≤ most)
-offer-bounds accepted n most backlogs k u e none =
-    let part = task-of accepted n k (cond (leb 1 u && leb u most) (cond (leb (sum backlogs + u) 1000000) None (Some BacklogFull)) (Some UnitsNotAllowed)) e none in
+pub offer_bounds : (accepted : Bool) (n most : ℕ) (backlogs : List ℕ) (k u : ℕ) {o : Option Fault} → o ≡ offer_fault accepted n most backlogs k u → o ≡ None → (1 ≤ k) × (k ≤ n) × (1 ≤ u) × (u ≤ most)
+offer_bounds accepted n most backlogs k u e none =
+    let part = task_of accepted n k (cond (leb 1 u && leb u most) (cond (leb (sum backlogs + u) 1000000) None (Some BacklogFull)) (Some UnitsNotAllowed)) e none in
     let units = passed (leb 1 u && leb u most) (cond (leb (sum backlogs + u) 1000000) None (Some BacklogFull)) UnitsNotAllowed part.2 in
     let both = and_parts (leb 1 u) (leb u most) units.0 in
     (part.0, part.1, leb-true 1 u both.0, leb-true u most both.1)
@@ -45,7 +45,7 @@ pub record Releasable (n most : ℕ) (jobs : List Job) (i u : ℕ) : Type 0 wher
 
 pub releasable : (accepted : Bool) (n most : ℕ) (jobs : List Job) (i u : ℕ) {o : Option Fault} → o ≡ release_fault accepted n most jobs i u → o ≡ None → Releasable n most jobs i u
 releasable accepted n most jobs i u e none =
-    let task = task-of accepted n i (cond (leb 1 u && leb u most) (cond (nat_eq (left_of jobs i) 0) None (Some JobPending)) (Some UnitsNotAllowed)) e none in
+    let task = task_of accepted n i (cond (leb 1 u && leb u most) (cond (nat_eq (left_of jobs i) 0) None (Some JobPending)) (Some UnitsNotAllowed)) e none in
     let units = passed (leb 1 u && leb u most) (cond (nat_eq (left_of jobs i) 0) None (Some JobPending)) UnitsNotAllowed task.2 in
     let both = and_parts (leb 1 u) (leb u most) units.0 in
     let free = (passed (nat_eq (left_of jobs i) 0) None JobPending units.1).0 in
@@ -62,7 +62,7 @@ pub record Holdable (n : ℕ) (limits : List Limit) (s : State) (i u : ℕ) : Ty
 
 pub holdable : (accepted : Bool) (n : ℕ) (limits : List Limit) (s : State) (i u : ℕ) {o : Option Fault} → o ≡ hold_fault accepted n limits s i u → o ≡ None → Holdable n limits s i u
 holdable accepted n limits s i u e none =
-    let task = task-of accepted n i (cond (grantable n limits s i u) None (Some HoldNotGranted)) e none in
+    let task = task_of accepted n i (cond (grantable n limits s i u) None (Some HoldNotGranted)) e none in
     let granted = (passed (grantable n limits s i u) None HoldNotGranted task.2).0 in
     let d = leb u (hold_of limits i) && leb u (left_of s.jobs i) in
     let c = leb 1 u && d in
@@ -84,10 +84,10 @@ holdable accepted n limits s i u e none =
 -- the task that lets go is the holder
 pub holding : (accepted : Bool) (n : ℕ) (s : State) (i : ℕ) {o : Option Fault} → o ≡ let_go_fault accepted n s i → o ≡ None → s.holder ≡ i
 holding accepted n s i e none =
-    let task = task-of accepted n i (cond (nat_eq s.holder i) None (Some NothingToEnd)) e none in
+    let task = task_of accepted n i (cond (nat_eq s.holder i) None (Some NothingToEnd)) e none in
     eqb-true s.holder i (passed (nat_eq s.holder i) None NothingToEnd task.2).0
 
 pub endable : (accepted : Bool) (n : ℕ) (jobs : List Job) (i : ℕ) {o : Option Fault} → o ≡ end_fault accepted n jobs i → o ≡ None → (1 ≤ i) × (i ≤ n) × (1 ≤ left_of jobs i)
 endable accepted n jobs i e none =
-    let task = task-of accepted n i (cond (leb 1 (left_of jobs i)) None (Some NothingToEnd)) e none in
+    let task = task_of accepted n i (cond (leb 1 (left_of jobs i)) None (Some NothingToEnd)) e none in
     (task.0, task.1, leb-true 1 (left_of jobs i) (passed (leb 1 (left_of jobs i)) None NothingToEnd task.2).0)

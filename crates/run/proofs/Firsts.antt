@@ -37,8 +37,8 @@ module _ (f : ℕ → ℕ) where
   first (suc n) = onward n (first n)
 
   -- a loop over the numbers 1 to n, where f is 0 at the first i: v stands at the next
-  pub first-found : (n i v : ℕ) → f (i + 1) ≡ v → first_at f i ≡ 0 → i < n → 1 ≤ v → i + 1 ≡ first_at f n
-  first-found n i v at passed h some =
+  pub first_found : (n i v : ℕ) → f (i + 1) ≡ v → first_at f i ≡ 0 → i < n → 1 ≤ v → i + 1 ≡ first_at f n
+  first_found n i v at passed h some =
       let p = first n in
       elim (cases_order (first_at f n) (i + 1)) [
         | inl same ↦ sym same
@@ -50,11 +50,11 @@ module _ (f : ℕ → ℕ) where
         | inr (inr high) ↦ absurd (omega (arith, at, p.before (i + 1) (omega arith) high))
       ]
 
-  pub first-passed : (i v : ℕ) → f (i + 1) ≡ v → first_at f i ≡ 0 → v ≤ 0 → first_at f (i + 1) ≡ 0
-  first-passed i v at passed none =
+  pub first_passed : (i v : ℕ) → f (i + 1) ≡ v → first_at f i ≡ 0 → v ≤ 0 → first_at f (i + 1) ≡ 0
+  first_passed i v at passed none =
       let more : first_at f (i + 1) ≡ first_at f (suc i) = ap (first_at f) (add-one i) in
       let here : f (i + 1) ≡ f (suc i) = ap f (add-one i) in
       grind (arith, nat_tests)
 
-  pub first-end : (n i : ℕ) → first_at f i ≡ 0 → i ≡ n → 0 ≡ first_at f n
-  first-end n i passed e = sym passed ∙ ap (first_at f) e
+  pub first_end : (n i : ℕ) → first_at f i ≡ 0 → i ≡ n → 0 ≡ first_at f n
+  first_end n i passed e = sym passed ∙ ap (first_at f) e

@@ -33,8 +33,8 @@ module _ {B : Type 0} (r : Run B) where
   steady = record { backlogs = r.backlogs_held; jobs = r.jobs_held; waiting = r.waiting; known = r.known; within = r.within; short = r.short }
 
   -- the table and the state are others
-  pub held-paced : (n : ℕ) (rows : List Row) (s : State) {t : State} → n ≡ r.table.count → Deadlines r.limits n rows → t ≡ s → Steady r.limits r.table.count s → Lasting s → Held r.limits r.bounds r.parts n rows t
-  held-paced n rows s same deadlines e after lasting =
+  pub held_paced : (n : ℕ) (rows : List Row) (s : State) {t : State} → n ≡ r.table.count → Deadlines r.limits n rows → t ≡ s → Steady r.limits r.table.count s → Lasting s → Held r.limits r.bounds r.parts n rows t
+  held_paced n rows s same deadlines e after lasting =
       let now : Held r.limits r.bounds r.parts n rows s = record {
         limits_held = r.limits_held;
         bounds_held = r.bounds_held;
@@ -53,4 +53,4 @@ module _ {B : Type 0} (r : Run B) where
 
   -- the state is another
   pub held : (s : State) {t : State} → t ≡ s → Steady r.limits r.table.count s → Lasting s → Held r.limits r.bounds r.parts r.table.count r.table.rows t
-  held s e after lasting = held-paced r.table.count r.table.rows s refl r.deadlines e after lasting
+  held s e after lasting = held_paced r.table.count r.table.rows s refl r.deadlines e after lasting

@@ -5,7 +5,7 @@ ghost use Rattle.loads.specs.Share.{load_of};
 ghost use Rattle.source.specs.Facts.{is_part, single, offerable, Sound, Kept, Taken, Ticked, Driven};
 ghost use Rattle.schedule.specs.Makes.{cycle_fault, pair_fault};
 ghost use Rattle.schedule.specs.Phases.{none, offset_of, length_of, demand, allowance, later, Gives, View};
-ghost use Rattle.schedule.specs.Views.{view-sound, view-taken, view-ticked};
+ghost use Rattle.schedule.specs.Views.{view_sound, view_taken, view_ticked};
 
 use crate::slot::{Slot, largest_met, length_now};
 use cycles::step;
@@ -128,7 +128,7 @@ impl Source for Schedule {
 
     ghost sound = { λ s.
         let v : View = record { cycle = s.cycle; count = s.count; slots = s.slots; phase = s.phase; taken = s.taken } in
-        view-sound v (record { cycle = s.turn.0; phase = s.turn.1; rising = s.rising; below = s.below; lengths = s.lengths }) };
+        view_sound v (record { cycle = s.turn.0; phase = s.turn.1; rising = s.rising; below = s.below; lengths = s.lengths }) };
 
     fn count(&self) -> u32 {
         1
@@ -156,7 +156,7 @@ impl Gate for Schedule {
 
     ghost ticks = { λ s t. record { cycle = t.cycle; count = t.count; slots = t.slots; phase = t.phase; taken = t.taken } ≡ later (record { cycle = s.cycle; count = s.count; slots = s.slots; phase = s.phase; taken = s.taken }) };
 
-    ghost driven = { record { taken = λ s t k u g. view-taken _ _ k u g; ticked = λ s t e. view-ticked _ _ e } };
+    ghost driven = { record { taken = λ s t k u g. view_taken _ _ k u g; ticked = λ s t e. view_ticked _ _ e } };
 
     fn offer(&mut self, part: u32, units: u64) -> bool {
         if part != 1 || units < 1 || units > u64::from(self.open()) {

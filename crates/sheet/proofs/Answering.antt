@@ -15,8 +15,8 @@ use Rattle.sheet.specs.Reading.{Sheet}
 use Rattle.sheet.specs.Views.{of_parts}
 
 -- the same parts give the same judgement
-pub same-judged : (s s' : Schedule) (r r' : Rack) (t t' : Tasks) (v : Verdict) (bounds : List ℕ) → s ≡ s' → r ≡ r' → t ≡ t' → JudgedPlan (of_parts s r t) v bounds → JudgedPlan (of_parts s' r' t') v bounds
-same-judged s s' r r' t t' v bounds es er et h =
+pub same_judged : (s s' : Schedule) (r r' : Rack) (t t' : Tasks) (v : Verdict) (bounds : List ℕ) → s ≡ s' → r ≡ r' → t ≡ t' → JudgedPlan (of_parts s r t) v bounds → JudgedPlan (of_parts s' r' t') v bounds
+same_judged s s' r r' t t' v bounds es er et h =
     subst (λ x. JudgedPlan (of_parts x r' t') v bounds) es
     (subst (λ x. JudgedPlan (of_parts s x t') v bounds) er
     (subst (λ x. JudgedPlan (of_parts s r x) v bounds) et h))

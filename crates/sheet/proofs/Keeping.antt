@@ -12,8 +12,8 @@ use Rattle.sheet.specs.Drafts.{Plan, plain, with_irq, with_task, unless, irq_lin
 use Rattle.sheet.specs.Reading.{next}
 use Rattle.sheet.specs.Rowing.{kept, next_row}
 
-kept-is : (cs : List ℕ) → kept (costs_of cs) ≡ take 9 cs
-kept-is cs =
+kept_is : (cs : List ℕ) → kept (costs_of cs) ≡ take 9 cs
+kept_is cs =
     elim (cases_lt (length cs) 9) [
       | inl short ↦
           let all : take 9 cs ≡ cs = take_all 9 cs (omega arith) in
@@ -33,8 +33,8 @@ either_way false f e = refl
 too_many : (most n t j : ℕ) (cs : List ℕ) → 8 < length cs → adding most n t j cs ≡ Some TooMany
 too_many most n t j cs h = either_way (ltb n most) (fault_of t j cs) (cond-false (leb (length cs) 8) (cond (given_right t j cs) (cond (ltb j t) None (Some Misfit)) (Some OutOfRange)) (Some TooMany) (lt-leb (length cs) 8 h))
 
-same-irq : (p : Plan) (t j : ℕ) (cs : List ℕ) → irq_line p t j (take 9 cs) ≡ irq_line p t j cs
-same-irq p t j cs =
+same_irq : (p : Plan) (t j : ℕ) (cs : List ℕ) → irq_line p t j (take 9 cs) ≡ irq_line p t j cs
+same_irq p t j cs =
     elim (cases_lt (length cs) 9) [
       | inl short ↦ ap (irq_line p t j) (take_all 9 cs (omega arith))
       | inr long ↦
@@ -43,9 +43,9 @@ same-irq p t j cs =
     ]
 
 -- a fault is found where the costs are too many, whatever the limits are
-some-fault : (f : Option Fault) (n : ℕ) (p q : Plan) → unless (first_of (Some TooMany) f) n p ≡ unless (first_of (Some TooMany) f) n q
-some-fault None n p q = refl
-some-fault (Some g) n p q = go (leb 5 (row_number g))
+some_fault : (f : Option Fault) (n : ℕ) (p q : Plan) → unless (first_of (Some TooMany) f) n p ≡ unless (first_of (Some TooMany) f) n q
+some_fault None n p q = refl
+some_fault (Some g) n p q = go (leb 5 (row_number g))
   where
     row_number : Fault → ℕ
     row_number x = (row x).number
@@ -54,14 +54,14 @@ some-fault (Some g) n p q = go (leb 5 (row_number g))
     go true = refl
     go false = refl
 
-same-task : (p : Plan) (t j b d h : ℕ) (cs : List ℕ) → task_line p t j b d h (take 9 cs) ≡ task_line p t j b d h cs
-same-task p t j b d h cs =
+same_task : (p : Plan) (t j b d h : ℕ) (cs : List ℕ) → task_line p t j b d h (take 9 cs) ≡ task_line p t j b d h cs
+same_task p t j b d h cs =
     let limits = limit_fault p.limits p.tasks t j b d h in
     elim (cases_lt (length cs) 9) [
       | inl short ↦ ap (task_line p t j b d h) (take_all 9 cs (omega arith))
       | inr long ↦
           ap (λ f. unless (first_of f limits) (p.tasks + 1) (with_task p t j b d h (take 9 cs))) (too_many 16 p.tasks t j (take 9 cs) (omega (arith, length-take-le 9 cs long)))
-          ∙ some-fault limits (p.tasks + 1) (with_task p t j b d h (take 9 cs)) (with_task p t j b d h cs)
+          ∙ some_fault limits (p.tasks + 1) (with_task p t j b d h (take 9 cs)) (with_task p t j b d h cs)
           ∙ sym (ap (λ f. unless (first_of f limits) (p.tasks + 1) (with_task p t j b d h cs)) (too_many 16 p.tasks t j cs (omega arith)))
     ]
 
@@ -73,5 +73,5 @@ same_next None (Ok (irq t j cs)) = refl
 same_next None (Ok (task t j b d h cs)) = refl
 same_next (Some p) (Ok (cycle c)) = refl
 same_next (Some p) (Ok (at u z)) = refl
-same_next (Some p) (Ok (irq t j cs)) = ap (irq_line p t j) (kept-is cs) ∙ same-irq p t j cs
-same_next (Some p) (Ok (task t j b d h cs)) = ap (task_line p t j b d h) (kept-is cs) ∙ same-task p t j b d h cs
+same_next (Some p) (Ok (irq t j cs)) = ap (irq_line p t j) (kept_is cs) ∙ same_irq p t j cs
+same_next (Some p) (Ok (task t j b d h cs)) = ap (task_line p t j b d h) (kept_is cs) ∙ same_task p t j b d h cs

@@ -2,13 +2,13 @@
 use Rattle.std.proofs.Common.{◌≡◌, ℕ, zero, suc, ◌+◌, ◌-◌, ◌<◌, cond, ltb, List, ◌++◌, length, get_or, set, Some, None, Ok, Err, Option, Result, unwrap_or, sym, refl, ap, ◌∙◌, subst, arith}
 use Rattle.std.proofs.lemmas.Bool.{lt-ltb, le-ltb, cond-true, cond-false}
 use Rattle.source.specs.Facts.{is_part}
-use Rattle.source.proofs.Parts.{part-from}
+use Rattle.source.proofs.Parts.{part_from}
 use Rattle.paced.specs.Loads.{row_load}
 use Rattle.paced.specs.Tables.{row_at}
 use Rattle.cycles.specs.Round.{sum}
 use Rattle.loads.specs.Share.{load_of}
 use Rattle.schedule.specs.Phases.{length_of}
-use Rattle.plan.proofs.Bounds.{bound-more}
+use Rattle.plan.proofs.Bounds.{bound_more}
 use Rattle.plan.proofs.Once.{once}
 use Rattle.plan.specs.Judged.{bounds_told}
 use Rattle.refusal.specs.declared.Refusal.{Refusal}
@@ -21,51 +21,51 @@ use Rattle.sheet.specs.Marking.{bank_parts, bank_demand, JudgedPlan, Answered, p
 use Rattle.sheet.specs.Reading.{Sheet}
 
 -- the same items give the same lines
-pub numbered-same : {X : Type 0} (line : ℕ → X → List ℕ) (f g : ℕ → X) (n : ℕ) → ((k : ℕ) → k < n → f k ≡ g k) → numbered line f n ≡ numbered line g n
-numbered-same line f g zero e = refl
-numbered-same line f g (suc n) e = let below = numbered-same line f g n (λ k l. e k (omega arith)) in let here = e n (omega arith) in λ i. below i ++ line (n + 1) (here i)
+pub numbered_same : {X : Type 0} (line : ℕ → X → List ℕ) (f g : ℕ → X) (n : ℕ) → ((k : ℕ) → k < n → f k ≡ g k) → numbered line f n ≡ numbered line g n
+numbered_same line f g zero e = refl
+numbered_same line f g (suc n) e = let below = numbered_same line f g n (λ k l. e k (omega arith)) in let here = e n (omega arith) in λ i. below i ++ line (n + 1) (here i)
 
 module _ (p : Plan) where
   -- the answer to the question for the load of the interrupt at place k
-  pub load-asked : (k : ℕ) (o : Option ℕ) → k < p.irqs → o ≡ cond (is_part p.irqs (k + 1)) (Some (row_load (row_at p.irq_rows (k + 1 - 1)))) None → unwrap_or o 0 ≡ part_load p k
-  load-asked k o h e =
+  pub load_asked : (k : ℕ) (o : Option ℕ) → k < p.irqs → o ≡ cond (is_part p.irqs (k + 1)) (Some (row_load (row_at p.irq_rows (k + 1 - 1)))) None → unwrap_or o 0 ≡ part_load p k
+  load_asked k o h e =
       let back : k + 1 - 1 ≡ k = omega arith in
-      ap (λ a. unwrap_or a 0) (e ∙ ap (λ b. cond b (Some (row_load (row_at p.irq_rows (k + 1 - 1)))) None) (part-from p.irqs (k + 1) (omega arith) (omega arith)))
+      ap (λ a. unwrap_or a 0) (e ∙ ap (λ b. cond b (Some (row_load (row_at p.irq_rows (k + 1 - 1)))) None) (part_from p.irqs (k + 1) (omega arith) (omega arith)))
       ∙ ap (λ j. row_load (row_at p.irq_rows j)) back
       ∙ sym (cond-true (ltb k p.irqs) (row_load (row_at p.irq_rows k)) (load_of (sum (length_of p.slots) p.pairs) p.cycle) (lt-ltb k p.irqs h))
 
   -- the part behind the interrupts is the schedule
-  pub schedule-load : load_of (sum (length_of p.slots) p.pairs) p.cycle ≡ part_load p p.irqs
-  schedule-load = sym (cond-false (ltb p.irqs p.irqs) (row_load (row_at p.irq_rows p.irqs)) (load_of (sum (length_of p.slots) p.pairs) p.cycle) (le-ltb p.irqs p.irqs (omega arith)))
+  pub schedule_load : load_of (sum (length_of p.slots) p.pairs) p.cycle ≡ part_load p p.irqs
+  schedule_load = sym (cond-false (ltb p.irqs p.irqs) (row_load (row_at p.irq_rows p.irqs)) (load_of (sum (length_of p.slots) p.pairs) p.cycle) (le-ltb p.irqs p.irqs (omega arith)))
 
   -- one load more, at the place m, which is n
-  pub load-more : (loads loads' : List ℕ) (m n x : ℕ) → m ≡ n → n < length loads → loads' ≡ set loads m x → x ≡ part_load p n → ((k : ℕ) → k < n → get_or loads k 0 ≡ part_load p k) → (k : ℕ) → k < n + 1 → get_or loads' k 0 ≡ part_load p k
-  load-more loads loads' m n x same room e here so_far k h = ap (λ xs. get_or xs k 0) (e ∙ ap (λ j. set loads j x) same) ∙ bound-more (λ i w. w ≡ part_load p i) loads n x room so_far here k h
+  pub load_more : (loads loads' : List ℕ) (m n x : ℕ) → m ≡ n → n < length loads → loads' ≡ set loads m x → x ≡ part_load p n → ((k : ℕ) → k < n → get_or loads k 0 ≡ part_load p k) → (k : ℕ) → k < n + 1 → get_or loads' k 0 ≡ part_load p k
+  load_more loads loads' m n x same room e here so_far k h = ap (λ xs. get_or xs k 0) (e ∙ ap (λ j. set loads j x) same) ∙ bound_more (λ i w. w ≡ part_load p i) loads n x room so_far here k h
 
 -- the same bounds give the same text
-same-bounds : (p : Plan) (list bounds : List ℕ) → ((i : ℕ) → i < p.tasks → get_or list i 0 ≡ get_or bounds i 0) → accepted_plan p list ≡ accepted_plan p bounds
-same-bounds p list bounds e =
-    let told = numbered-same task_line (task_mark p list) (task_mark p bounds) p.tasks (λ i h. ap (λ b. record { bound = b; deadline = (limit_at p.limits i).deadline; load = row_load (row_at p.task_rows i) }) (e i h)) in
+same_bounds : (p : Plan) (list bounds : List ℕ) → ((i : ℕ) → i < p.tasks → get_or list i 0 ≡ get_or bounds i 0) → accepted_plan p list ≡ accepted_plan p bounds
+same_bounds p list bounds e =
+    let told = numbered_same task_line (task_mark p list) (task_mark p bounds) p.tasks (λ i h. ap (λ b. record { bound = b; deadline = (limit_at p.limits i).deadline; load = row_load (row_at p.task_rows i) }) (e i h)) in
     ap (λ ts. accepted_line p.tasks ++ (numbered part_line (part_load p) (p.irqs + 1) ++ ts)) told
 
 -- the text of a plan whose bounds the judge told
-pub listed-accepted : (r : Result Sheet Refusal) (s : Sheet) (list text : List ℕ) → r ≡ Ok s → ((v : Verdict) × (bounds : List ℕ) × JudgedPlan s.plan v bounds × Answered s v bounds (Ok list)) → text ≡ accepted_plan s.plan list → ListedAs r text
-listed-accepted r s list text e told is = subst (λ x. ListedAs x text) (sym e) (told.0, told.1, told.2, by told.0 told.3)
+pub listed_accepted : (r : Result Sheet Refusal) (s : Sheet) (list text : List ℕ) → r ≡ Ok s → ((v : Verdict) × (bounds : List ℕ) × JudgedPlan s.plan v bounds × Answered s v bounds (Ok list)) → text ≡ accepted_plan s.plan list → ListedAs r text
+listed_accepted r s list text e told is = subst (λ x. ListedAs x text) (sym e) (told.0, told.1, told.2, by told.0 told.3)
   where
     by : (v : Verdict) → Answered s v told.1 (Ok list) → text ≡ verdict_text s v told.1
-    by (Accepted n) a = is ∙ same-bounds s.plan list told.1 a
+    by (Accepted n) a = is ∙ same_bounds s.plan list told.1 a
     by NotJudgeable a = absurd a
     by (Late i) a = absurd a
 
 -- what is read has only one listing
-pub only-listed : (r : Result Sheet Refusal) (text other : List ℕ) → ListedAs r text → ListedAs r other → text ≡ other
-only-listed (Err e) text other a b = a ∙ sym b
-only-listed (Ok s) text other a b =
+pub only_listed : (r : Result Sheet Refusal) (text other : List ℕ) → ListedAs r text → ListedAs r other → text ≡ other
+only_listed (Err e) text other a b = a ∙ sym b
+only_listed (Ok s) text other a b =
     let p = s.plan in
     let same = once (bank_demand p) (bank_parts p) p.limits p.tasks p.task_rows a.0 a.1 a.2 b.0 b.1 b.2 in
     a.3 ∙ sym (by a.0 a.2 same.1) ∙ ap (λ v. verdict_text s v b.1) (sym same.0) ∙ sym b.3
   where
     by : (v : Verdict) → JudgedPlan s.plan v a.1 → ((i : ℕ) → i < bounds_told v → get_or b.1 i 0 ≡ get_or a.1 i 0) → verdict_text s v b.1 ≡ verdict_text s v a.1
-    by (Accepted n) j e = same-bounds s.plan b.1 a.1 (λ i h. e i (omega (arith, j.0)))
+    by (Accepted n) j e = same_bounds s.plan b.1 a.1 (λ i h. e i (omega (arith, j.0)))
     by NotJudgeable j e = refl
     by (Late i) j e = refl

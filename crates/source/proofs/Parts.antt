@@ -3,23 +3,23 @@ use Rattle.std.proofs.Common.{◌≡◌, ℕ, ◌+◌, ◌≤◌, Bool, true, fa
 use Rattle.std.proofs.lemmas.Bool.{leb-true, le-leb, cond-true, cond-false, and_parts, and_from}
 use Rattle.source.specs.Facts.{is_part, single, offerable, Sound, Kept, Taken, Ticked}
 
-pub part-bounds : (n k : ℕ) → is_part n k ≡ true → (1 ≤ k) × (k ≤ n)
-part-bounds n k e =
+pub part_bounds : (n k : ℕ) → is_part n k ≡ true → (1 ≤ k) × (k ≤ n)
+part_bounds n k e =
     let p = and_parts (leb 1 k) (leb k n) e in
     (leb-true 1 k p.0, leb-true k n p.1)
 
-pub part-from : (n k : ℕ) → 1 ≤ k → k ≤ n → is_part n k ≡ true
-part-from n k low high = and_from (leb 1 k) (leb k n) (le-leb 1 k low) (le-leb k n high)
+pub part_from : (n k : ℕ) → 1 ≤ k → k ≤ n → is_part n k ≡ true
+part_from n k low high = and_from (leb 1 k) (leb k n) (le-leb 1 k low) (le-leb k n high)
 
 -- an offer that is taken names a part, and units within its allowance; and such an offer is taken
-pub offerable-parts : (n : ℕ) (a : ℕ → ℕ → ℕ) (k u : ℕ) → offerable n a k u ≡ true → (is_part n k ≡ true) × (1 ≤ u) × (u ≤ a k 1)
-offerable-parts n a k u e =
+pub offerable_parts : (n : ℕ) (a : ℕ → ℕ → ℕ) (k u : ℕ) → offerable n a k u ≡ true → (is_part n k ≡ true) × (1 ≤ u) × (u ≤ a k 1)
+offerable_parts n a k u e =
     let p = and_parts (is_part n k) (leb 1 u && leb u (a k 1)) e in
     let q = and_parts (leb 1 u) (leb u (a k 1)) p.1 in
     (p.0, leb-true 1 u q.0, leb-true u (a k 1) q.1)
 
-pub offerable-from : (n : ℕ) (a : ℕ → ℕ → ℕ) (k u : ℕ) → is_part n k ≡ true → 1 ≤ u → u ≤ a k 1 → offerable n a k u ≡ true
-offerable-from n a k u part some within = and_from (is_part n k) (leb 1 u && leb u (a k 1)) part (and_from (leb 1 u) (leb u (a k 1)) (le-leb 1 u some) (le-leb u (a k 1) within))
+pub offerable_from : (n : ℕ) (a : ℕ → ℕ → ℕ) (k u : ℕ) → is_part n k ≡ true → 1 ≤ u → u ≤ a k 1 → offerable n a k u ≡ true
+offerable_from n a k u part some within = and_from (is_part n k) (leb 1 u && leb u (a k 1)) part (and_from (leb 1 u) (leb u (a k 1)) (le-leb 1 u some) (le-leb u (a k 1) within))
 
 -- for a part one thing, for any other number 0
 pub by_part : (R : ℕ → ℕ → Type 0) (n k x y : ℕ) → (is_part n k ≡ true → R x y) → R 0 0 → R (cond (is_part n k) x 0) (cond (is_part n k) y 0)
@@ -31,11 +31,11 @@ by_part R n k x y part none = go (is_part n k) refl
 
 -- sources and gates of one part
 
-pub single-at : (f : ℕ → ℕ) (k l : ℕ) → k ≡ 1 → single f k l ≡ f l
-single-at f k l e = cond-true (is_part 1 k) (f l) 0 (part-from 1 k (omega arith) (omega arith))
+pub single_at : (f : ℕ → ℕ) (k l : ℕ) → k ≡ 1 → single f k l ≡ f l
+single_at f k l e = cond-true (is_part 1 k) (f l) 0 (part_from 1 k (omega arith) (omega arith))
 
-pub single-sound : (d a : ℕ → ℕ) → d 0 ≡ 0 → ((l m : ℕ) → l ≤ m → d l ≤ d m) → ((l : ℕ) → l ≤ 1000000 → d l ≤ 10000000000000) → ((l : ℕ) → a l ≤ d l) → Sound 1 (single d) (single a)
-single-sound d a none rises small within =
+pub single_sound : (d a : ℕ → ℕ) → d 0 ≡ 0 → ((l m : ℕ) → l ≤ m → d l ≤ d m) → ((l : ℕ) → l ≤ 1000000 → d l ≤ 10000000000000) → ((l : ℕ) → a l ≤ d l) → Sound 1 (single d) (single a)
+single_sound d a none rises small within =
     record {
       few = omega arith;
       none = λ k. by_part (λ x y. x ≡ 0) 1 k (d 0) 0 (λ _. none) refl;
@@ -45,15 +45,15 @@ single-sound d a none rises small within =
       within = λ k l. by_part (λ x y. x ≤ y) 1 k (a l) (d l) (λ _. within l) (omega arith);
     }
 
-pub single-kept : (d d' : ℕ → ℕ) → d' ≡ d → Kept 1 (single d) 1 (single d')
-single-kept d d' e = record { count = refl; demand = ap single e }
+pub single_kept : (d d' : ℕ → ℕ) → d' ≡ d → Kept 1 (single d) 1 (single d')
+single_kept d d' e = record { count = refl; demand = ap single e }
 
-pub single-taken : (a a' : ℕ → ℕ) (k u : ℕ) → k ≡ 1 → ((l : ℕ) → 1 ≤ l → u + a' l ≤ a l) → Taken (single a) k u (single a')
-single-taken a a' k u e within =
+pub single_taken : (a a' : ℕ → ℕ) (k u : ℕ) → k ≡ 1 → ((l : ℕ) → 1 ≤ l → u + a' l ≤ a l) → Taken (single a) k u (single a')
+single_taken a a' k u e within =
     record {
-      within = λ l h. omega (arith, single-at a k l e, single-at a' k l e, within l h);
-      others = λ j l ne. by_part (λ x y. x ≡ y) 1 j (a' l) (a l) (λ p. absurd (ne (omega (arith, part-bounds 1 j p)))) refl;
+      within = λ l h. omega (arith, single_at a k l e, single_at a' k l e, within l h);
+      others = λ j l ne. by_part (λ x y. x ≡ y) 1 j (a' l) (a l) (λ p. absurd (ne (omega (arith, part_bounds 1 j p)))) refl;
     }
 
-pub single-ticked : (a a' : ℕ → ℕ) → ((l : ℕ) → a' l ≤ a (l + 1)) → Ticked (single a) (single a')
-single-ticked a a' shorter = record { shorter = λ k l. by_part (λ x y. x ≤ y) 1 k (a' l) (a (l + 1)) (λ _. shorter l) (omega arith) }
+pub single_ticked : (a a' : ℕ → ℕ) → ((l : ℕ) → a' l ≤ a (l + 1)) → Ticked (single a) (single a')
+single_ticked a a' shorter = record { shorter = λ k l. by_part (λ x y. x ≤ y) 1 k (a' l) (a (l + 1)) (λ _. shorter l) (omega arith) }

@@ -2,7 +2,7 @@
 ghost use Rattle.std.specs.Prelude.{◌≡◌, ℕ, ◌-◌, ◌≤◌, true, false, cond, ◌&&◌, Some, None, MatchBool, nat_le};
 ghost use Rattle.source.specs.Facts.{is_part, Sound, Kept, Taken, Ticked, Driven};
 ghost use Rattle.source.specs.Sides.{both, beside};
-ghost use Rattle.source.specs.Besides.{beside-sound, beside-taken, beside-driven};
+ghost use Rattle.source.specs.Besides.{beside_sound, beside_taken, beside_driven};
 
 use crate::{Gate, MOST_PARTS, Source};
 
@@ -29,7 +29,7 @@ impl<A: Source, B: Source> Source for Pair<A, B> {
 
     ghost allowed = { λ s. beside (A.Source.parts s.left) (A.Source.allowed s.left) (B.Source.allowed s.right) };
 
-    ghost sound = { λ s. beside-sound _ _ _ _ _ _ (A.Source.sound s.left) (B.Source.sound s.right) };
+    ghost sound = { λ s. beside_sound _ _ _ _ _ _ (A.Source.sound s.left) (B.Source.sound s.right) };
 
     fn count(&self) -> u32 {
         (self.left.count() + self.right.count()).min(MOST_PARTS)
@@ -64,8 +64,8 @@ impl<A: Gate, B: Gate> Gate for Pair<A, B> {
     ghost ticks = { λ s t. A.Gate.ticks s.left t.left × B.Gate.ticks s.right t.right };
 
     ghost driven = { record {
-      taken = λ s t k u h. beside-taken _ _ _ _ _ _ _ _ _ _ A.Gate.driven B.Gate.driven s.left t.left s.right t.right k u h;
-      ticked = λ s t h. beside-driven _ _ _ _ _ _ _ _ _ _ A.Gate.driven B.Gate.driven s.left t.left s.right t.right h;
+      taken = λ s t k u h. beside_taken _ _ _ _ _ _ _ _ _ _ A.Gate.driven B.Gate.driven s.left t.left s.right t.right k u h;
+      ticked = λ s t h. beside_driven _ _ _ _ _ _ _ _ _ _ A.Gate.driven B.Gate.driven s.left t.left s.right t.right h;
     } };
 
     fn offer(&mut self, part: u32, units: u64) -> bool {

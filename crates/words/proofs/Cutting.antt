@@ -24,83 +24,83 @@ starts_by : (s x : ℕ) (xs zs : List ℕ) (b : Bool) → eqb x s ≡ b → ((y 
 starts_by s x xs zs true t more y ys e = let same : x ≡ y = cc in sym same ∙ eqb-true x s t
 starts_by s x xs zs false t more y ys e = more y ys e
 
-onward-starts : (s : ℕ) (xs : List ℕ) (y : ℕ) (ys : List ℕ) → onward s xs ≡ y ∷ ys → y ≡ s
-onward-starts s [] y ys e = let z : ◌≡◌ {A = ℕ} 0 1 = cc in absurd (omega arith)
-onward-starts s (x ∷ xs) y ys e = starts_by s x xs (onward s xs) (eqb x s) refl (onward-starts s xs) y ys e
+onward_starts : (s : ℕ) (xs : List ℕ) (y : ℕ) (ys : List ℕ) → onward s xs ≡ y ∷ ys → y ≡ s
+onward_starts s [] y ys e = let z : ◌≡◌ {A = ℕ} 0 1 = cc in absurd (omega arith)
+onward_starts s (x ∷ xs) y ys e = starts_by s x xs (onward s xs) (eqb x s) refl (onward_starts s xs) y ys e
 
 -- there is no s, or an s and what stands after it
 module _ (s : ℕ) (xs : List ℕ) (r : ℕ) (e : drop r xs ≡ onward s xs) where
-  pub none-at : r ≡ length xs → onward s xs ≡ []
-  none-at all = sym e ∙ drop_all r xs (omega arith)
+  pub none_at : r ≡ length xs → onward s xs ≡ []
+  none_at all = sym e ∙ drop_all r xs (omega arith)
 
   pub found_at : r < length xs → s ∷ drop (r + 1) xs ≡ onward s xs
   found_at less =
       let on : onward s xs ≡ get_or xs r 0 ∷ drop (r + 1) xs = sym e ∙ drop_more xs r 0 less in
-      ap (λ y. y ∷ drop (r + 1) xs) (sym (onward-starts s xs (get_or xs r 0) (drop (r + 1) xs) on)) ∙ sym on
+      ap (λ y. y ∷ drop (r + 1) xs) (sym (onward_starts s xs (get_or xs r 0) (drop (r + 1) xs) on)) ∙ sym on
 
-pub pieces-first : (s : ℕ) (xs : List ℕ) → pieces s xs ≡ before s xs ∷ following s (onward s xs)
-pieces-first s [] = refl
-pieces-first s (x ∷ xs) =
+pub pieces_first : (s : ℕ) (xs : List ℕ) → pieces s xs ≡ before s xs ∷ following s (onward s xs)
+pieces_first s [] = refl
+pieces_first s (x ∷ xs) =
     elim (eqb x s) as (λ b. cond b ([] ∷ pieces s xs) (onto x (pieces s xs)) ≡ cond b [] (x ∷ before s xs) ∷ following s (cond b (x ∷ xs) (onward s xs))) [
       | true ↦ refl
-      | false ↦ ap (onto x) (pieces-first s xs)
+      | false ↦ ap (onto x) (pieces_first s xs)
     ]
 
-pub pieces-some : (s : ℕ) (xs : List ℕ) → 1 ≤ length (pieces s xs)
-pieces-some s xs = omega (arith, ap length (pieces-first s xs))
+pub pieces_some : (s : ℕ) (xs : List ℕ) → 1 ≤ length (pieces s xs)
+pieces_some s xs = omega (arith, ap length (pieces_first s xs))
 
 module _ (s : ℕ) where
-  onto-lacks : (x : ℕ) (ws : List (List ℕ)) → eqb x s ≡ false → all_lack s ws ≡ true → all_lack s (onto x ws) ≡ true
-  onto-lacks x [] e h = ap (λ b. (not b && true) && true) e
-  onto-lacks x (w ∷ ws) e h = ap (λ b. (not b && lacks s w) && all_lack s ws) e ∙ h
+  onto_lacks : (x : ℕ) (ws : List (List ℕ)) → eqb x s ≡ false → all_lack s ws ≡ true → all_lack s (onto x ws) ≡ true
+  onto_lacks x [] e h = ap (λ b. (not b && true) && true) e
+  onto_lacks x (w ∷ ws) e h = ap (λ b. (not b && lacks s w) && all_lack s ws) e ∙ h
 
-  step-lacks : (x : ℕ) (ws : List (List ℕ)) (b : Bool) → eqb x s ≡ b → all_lack s ws ≡ true → all_lack s (cond b ([] ∷ ws) (onto x ws)) ≡ true
-  step-lacks x ws true e h = h
-  step-lacks x ws false e h = onto-lacks x ws e h
+  step_lacks : (x : ℕ) (ws : List (List ℕ)) (b : Bool) → eqb x s ≡ b → all_lack s ws ≡ true → all_lack s (cond b ([] ∷ ws) (onto x ws)) ≡ true
+  step_lacks x ws true e h = h
+  step_lacks x ws false e h = onto_lacks x ws e h
 
-  pieces-lack : (xs : List ℕ) → all_lack s (pieces s xs) ≡ true
-  pieces-lack [] = refl
-  pieces-lack (x ∷ xs) = step-lacks x (pieces s xs) (eqb x s) refl (pieces-lack xs)
+  pieces_lack : (xs : List ℕ) → all_lack s (pieces s xs) ≡ true
+  pieces_lack [] = refl
+  pieces_lack (x ∷ xs) = step_lacks x (pieces s xs) (eqb x s) refl (pieces_lack xs)
 
-  joined-onto : (x : ℕ) (ws : List (List ℕ)) → joined s (onto x ws) ≡ x ∷ joined s ws
-  joined-onto x [] = refl
-  joined-onto x (w ∷ []) = refl
-  joined-onto x (w ∷ v ∷ ws) = refl
+  joined_onto : (x : ℕ) (ws : List (List ℕ)) → joined s (onto x ws) ≡ x ∷ joined s ws
+  joined_onto x [] = refl
+  joined_onto x (w ∷ []) = refl
+  joined_onto x (w ∷ v ∷ ws) = refl
 
-  joined-more : (w : List ℕ) (ws : List (List ℕ)) → 1 ≤ length ws → joined s (w ∷ ws) ≡ w ++ (s ∷ joined s ws)
-  joined-more w [] h = absurd (omega arith)
-  joined-more w (v ∷ ws) h = refl
+  joined_more : (w : List ℕ) (ws : List (List ℕ)) → 1 ≤ length ws → joined s (w ∷ ws) ≡ w ++ (s ∷ joined s ws)
+  joined_more w [] h = absurd (omega arith)
+  joined_more w (v ∷ ws) h = refl
 
-  step-whole : (x : ℕ) (xs : List ℕ) (ws : List (List ℕ)) (b : Bool) → eqb x s ≡ b → 1 ≤ length ws → joined s ws ≡ xs → joined s (cond b ([] ∷ ws) (onto x ws)) ≡ x ∷ xs
-  step-whole x xs ws true e some h = joined-more [] ws some ∙ ap (λ ys. s ∷ ys) h ∙ ap (λ y. y ∷ xs) (sym (eqb-true x s e))
-  step-whole x xs ws false e some h = joined-onto x ws ∙ ap (λ ys. x ∷ ys) h
+  step_whole : (x : ℕ) (xs : List ℕ) (ws : List (List ℕ)) (b : Bool) → eqb x s ≡ b → 1 ≤ length ws → joined s ws ≡ xs → joined s (cond b ([] ∷ ws) (onto x ws)) ≡ x ∷ xs
+  step_whole x xs ws true e some h = joined_more [] ws some ∙ ap (λ ys. s ∷ ys) h ∙ ap (λ y. y ∷ xs) (sym (eqb-true x s e))
+  step_whole x xs ws false e some h = joined_onto x ws ∙ ap (λ ys. x ∷ ys) h
 
   pieces_whole : (xs : List ℕ) → joined s (pieces s xs) ≡ xs
   pieces_whole [] = refl
-  pieces_whole (x ∷ xs) = step-whole x xs (pieces s xs) (eqb x s) refl (pieces-some s xs) (pieces_whole xs)
+  pieces_whole (x ∷ xs) = step_whole x xs (pieces s xs) (eqb x s) refl (pieces_some s xs) (pieces_whole xs)
 
   -- a part that lacks s is one piece
-  pieces-alone : (w : List ℕ) → lacks s w ≡ true → pieces s w ≡ w ∷ []
-  pieces-alone [] h = refl
-  pieces-alone (x ∷ w) h =
+  pieces_alone : (w : List ℕ) → lacks s w ≡ true → pieces s w ≡ w ∷ []
+  pieces_alone [] h = refl
+  pieces_alone (x ∷ w) h =
       let parts = and_parts (not (eqb x s)) (lacks s w) h in
-      cond-false (eqb x s) ([] ∷ pieces s w) (onto x (pieces s w)) (not-true (eqb x s) parts.0) ∙ ap (onto x) (pieces-alone w parts.1)
+      cond-false (eqb x s) ([] ∷ pieces s w) (onto x (pieces s w)) (not-true (eqb x s) parts.0) ∙ ap (onto x) (pieces_alone w parts.1)
 
-  pieces-on : (w rest : List ℕ) → lacks s w ≡ true → pieces s (w ++ (s ∷ rest)) ≡ w ∷ pieces s rest
-  pieces-on [] rest h = cond-true (eqb s s) ([] ∷ pieces s rest) (onto s (pieces s rest)) (eq-eqb s s refl)
-  pieces-on (x ∷ w) rest h =
+  pieces_on : (w rest : List ℕ) → lacks s w ≡ true → pieces s (w ++ (s ∷ rest)) ≡ w ∷ pieces s rest
+  pieces_on [] rest h = cond-true (eqb s s) ([] ∷ pieces s rest) (onto s (pieces s rest)) (eq-eqb s s refl)
+  pieces_on (x ∷ w) rest h =
       let parts = and_parts (not (eqb x s)) (lacks s w) h in
-      cond-false (eqb x s) ([] ∷ pieces s (w ++ (s ∷ rest))) (onto x (pieces s (w ++ (s ∷ rest)))) (not-true (eqb x s) parts.0) ∙ ap (onto x) (pieces-on w rest parts.1)
+      cond-false (eqb x s) ([] ∷ pieces s (w ++ (s ∷ rest))) (onto x (pieces s (w ++ (s ∷ rest)))) (not-true (eqb x s) parts.0) ∙ ap (onto x) (pieces_on w rest parts.1)
 
-  pieces-joined : (ws : List (List ℕ)) → 1 ≤ length ws → all_lack s ws ≡ true → pieces s (joined s ws) ≡ ws
-  pieces-joined [] some h = absurd (omega arith)
-  pieces-joined (w ∷ []) some h = pieces-alone w (and_parts (lacks s w) true h).0
-  pieces-joined (w ∷ v ∷ ws) some h =
+  pieces_joined : (ws : List (List ℕ)) → 1 ≤ length ws → all_lack s ws ≡ true → pieces s (joined s ws) ≡ ws
+  pieces_joined [] some h = absurd (omega arith)
+  pieces_joined (w ∷ []) some h = pieces_alone w (and_parts (lacks s w) true h).0
+  pieces_joined (w ∷ v ∷ ws) some h =
       let parts = and_parts (lacks s w) (all_lack s (v ∷ ws)) h in
-      pieces-on w (joined s (v ∷ ws)) parts.0 ∙ ap (λ ps. w ∷ ps) (pieces-joined (v ∷ ws) (omega arith) parts.1)
+      pieces_on w (joined s (v ∷ ws)) parts.0 ∙ ap (λ ps. w ∷ ps) (pieces_joined (v ∷ ws) (omega arith) parts.1)
 
-pub only-cut : (s : ℕ) (text : List ℕ) → OnlyCut s text
-only-cut s text = (
-  record { some = pieces-some s text; apart = pieces-lack s text; whole = pieces_whole s text },
-  λ ws c. sym (pieces-joined s ws c.some c.apart) ∙ ap (pieces s) c.whole,
+pub only_cut : (s : ℕ) (text : List ℕ) → OnlyCut s text
+only_cut s text = (
+  record { some = pieces_some s text; apart = pieces_lack s text; whole = pieces_whole s text },
+  λ ws c. sym (pieces_joined s ws c.some c.apart) ∙ ap (pieces s) c.whole,
 )

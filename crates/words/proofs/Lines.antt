@@ -6,49 +6,49 @@ use Rattle.refusal.specs.declared.Fault.TheVariants.{ForeignByte, BadWord}
 use Rattle.words.specs.Bytes.{clean}
 use Rattle.words.specs.Split.{before, onward, pieces, following}
 use Rattle.words.specs.Tokens.{Word, word_of, words_good, line_fault}
-use Rattle.words.proofs.Cutting.{pieces-first}
+use Rattle.words.proofs.Cutting.{pieces_first}
 
 -- the words from here on are good if the first is and those that follow are
-pub good-first : (xs : List ℕ) → words_good (pieces 32 xs) ≡ (is_some (word_of (before 32 xs)) && words_good (following 32 (onward 32 xs)))
-good-first xs = ap words_good (pieces-first 32 xs)
+pub good_first : (xs : List ℕ) → words_good (pieces 32 xs) ≡ (is_some (word_of (before 32 xs)) && words_good (following 32 (onward 32 xs)))
+good_first xs = ap words_good (pieces_first 32 xs)
 
-abbrev fault-by : Bool → Bool → Option Fault
-fault-by known good = cond known (cond good None (Some BadWord)) (Some ForeignByte)
+abbrev fault_by : Bool → Bool → Option Fault
+fault_by known good = cond known (cond good None (Some BadWord)) (Some ForeignByte)
 
-pub foreign-line : (line : List ℕ) → clean line ≡ false → line_fault line ≡ Some ForeignByte
-foreign-line line e = ap (λ b. fault-by b (words_good (pieces 32 line))) e
+pub foreign_line : (line : List ℕ) → clean line ≡ false → line_fault line ≡ Some ForeignByte
+foreign_line line e = ap (λ b. fault_by b (words_good (pieces 32 line))) e
 
-onward-shorter : (s : ℕ) (xs : List ℕ) → length (onward s xs) ≤ length xs
-onward-shorter s [] = omega arith
-onward-shorter s (x ∷ xs) =
+onward_shorter : (s : ℕ) (xs : List ℕ) → length (onward s xs) ≤ length xs
+onward_shorter s [] = omega arith
+onward_shorter s (x ∷ xs) =
     elim (eqb x s) as (λ b. length (cond b (x ∷ xs) (onward s xs)) ≤ length (x ∷ xs)) [
       | true ↦ omega arith
-      | false ↦ omega (arith, onward-shorter s xs)
+      | false ↦ omega (arith, onward_shorter s xs)
     ]
 
 -- a line of known bytes, whose words are good if those of its rest are
 module _ (line rest : List ℕ) (known : clean line ≡ true) (so_far : words_good (pieces 32 line) ≡ words_good (pieces 32 rest)) where
-  pub bad-line : word_of (before 32 rest) ≡ None → line_fault line ≡ Some BadWord
-  bad-line e =
-      ap (λ b. fault-by b (words_good (pieces 32 line))) known
-      ∙ ap (λ b. fault-by true b) (so_far ∙ good-first rest ∙ ap (λ o. is_some o && words_good (following 32 (onward 32 rest))) e)
+  pub bad_line : word_of (before 32 rest) ≡ None → line_fault line ≡ Some BadWord
+  bad_line e =
+      ap (λ b. fault_by b (words_good (pieces 32 line))) known
+      ∙ ap (λ b. fault_by true b) (so_far ∙ good_first rest ∙ ap (λ o. is_some o && words_good (following 32 (onward 32 rest))) e)
 
   module _ (w : Word) (after : List ℕ) (first : word_of (before 32 rest) ≡ Some w) (is : after ≡ onward 32 rest) where
-    good-on : words_good (pieces 32 line) ≡ words_good (following 32 after)
-    good-on = so_far ∙ good-first rest ∙ ap (λ o. is_some o && words_good (following 32 (onward 32 rest))) first ∙ ap (λ ys. words_good (following 32 ys)) (sym is)
+    good_on : words_good (pieces 32 line) ≡ words_good (following 32 after)
+    good_on = so_far ∙ good_first rest ∙ ap (λ o. is_some o && words_good (following 32 (onward 32 rest))) first ∙ ap (λ ys. words_good (following 32 ys)) (sym is)
 
-    pub good-line : length after < 1 → line_fault line ≡ None
-    good-line none =
-        ap (λ b. fault-by b (words_good (pieces 32 line))) known
-        ∙ ap (λ b. fault-by true b) (good-on ∙ ap (λ ys. words_good (following 32 ys)) (nil_from_length after (omega arith)))
+    pub good_line : length after < 1 → line_fault line ≡ None
+    good_line none =
+        ap (λ b. fault_by b (words_good (pieces 32 line))) known
+        ∙ ap (λ b. fault_by true b) (good_on ∙ ap (λ ys. words_good (following 32 ys)) (nil_from_length after (omega arith)))
 
-past-space : (after : List ℕ) → 1 ≤ length after → following 32 after ≡ pieces 32 (take (length after - 1) (drop 1 after))
-past-space [] h = absurd (omega arith)
-past-space (y ∷ ys) h = ap (pieces 32) (sym (take_rest (y ∷ ys) 1))
+past_space : (after : List ℕ) → 1 ≤ length after → following 32 after ≡ pieces 32 (take (length after - 1) (drop 1 after))
+past_space [] h = absurd (omega arith)
+past_space (y ∷ ys) h = ap (pieces 32) (sym (take_rest (y ∷ ys) 1))
 
 -- one word on
-pub next-words : (line rest : List ℕ) (w : Word) (after : List ℕ) → clean line ≡ true → words_good (pieces 32 line) ≡ words_good (pieces 32 rest) → word_of (before 32 rest) ≡ Some w → after ≡ onward 32 rest → 1 ≤ length after → words_good (pieces 32 line) ≡ words_good (pieces 32 (take (length after - 1) (drop 1 after)))
-next-words line rest w after known so_far first is some = good-on line rest known so_far w after first is ∙ ap words_good (past-space after some)
+pub next_words : (line rest : List ℕ) (w : Word) (after : List ℕ) → clean line ≡ true → words_good (pieces 32 line) ≡ words_good (pieces 32 rest) → word_of (before 32 rest) ≡ Some w → after ≡ onward 32 rest → 1 ≤ length after → words_good (pieces 32 line) ≡ words_good (pieces 32 (take (length after - 1) (drop 1 after)))
+next_words line rest w after known so_far first is some = good_on line rest known so_far w after first is ∙ ap words_good (past_space after some)
 
-pub next-shorter : (rest after : List ℕ) → after ≡ onward 32 rest → 1 ≤ length after → length (take (length after - 1) (drop 1 after)) < length rest
-next-shorter rest after is some = omega (arith, ap length is, onward-shorter 32 rest, ap length (take_rest after 1), length-drop 1 after)
+pub next_shorter : (rest after : List ℕ) → after ≡ onward 32 rest → 1 ≤ length after → length (take (length after - 1) (drop 1 after)) < length rest
+next_shorter rest after is some = omega (arith, ap length is, onward_shorter 32 rest, ap length (take_rest after 1), length-drop 1 after)

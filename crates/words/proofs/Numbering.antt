@@ -12,59 +12,59 @@ own : IsNumeralModel (λ ds. all_digits ds ≡ true) (read_on 0)
 own = numerals_by_fold _ (search rules) read_on (search rules)
 
 -- what a numeral is: digits, at least one, and 0 first only alone
-pub numeral-parts : (w : List ℕ) → numeral w ≡ true → (all_digits w ≡ true) × (0 < length w) × (get_or w 0 0 ≡ 48 → length w ≡ 1)
-numeral-parts [] h = let z : ◌≡◌ {A = ℕ} 0 1 = cc in absurd (omega arith)
-numeral-parts (c ∷ []) h = (and_from (is_digit c) true h refl, omega arith, λ _. refl)
-numeral-parts (c ∷ d ∷ cs) h =
+pub numeral_parts : (w : List ℕ) → numeral w ≡ true → (all_digits w ≡ true) × (0 < length w) × (get_or w 0 0 ≡ 48 → length w ≡ 1)
+numeral_parts [] h = let z : ◌≡◌ {A = ℕ} 0 1 = cc in absurd (omega arith)
+numeral_parts (c ∷ []) h = (and_from (is_digit c) true h refl, omega arith, λ _. refl)
+numeral_parts (c ∷ d ∷ cs) h =
     let parts = and_parts (not (eqb c 48)) (all_digits (c ∷ d ∷ cs)) h in
     (parts.1, omega arith, λ e. absurd (eqb-false c 48 (not-true (eqb c 48) parts.0) e))
 
-pub numeral-from : (w : List ℕ) → all_digits w ≡ true → 0 < length w → (get_or w 0 0 ≡ 48 → length w ≡ 1) → numeral w ≡ true
-numeral-from [] h some first = absurd (omega arith)
-numeral-from (c ∷ []) h some first = (and_parts (is_digit c) true h).0
-numeral-from (c ∷ d ∷ cs) h some first = and_from (not (eqb c 48)) (all_digits (c ∷ d ∷ cs)) (not_from_false (eqb c 48) (ne_eqb c 48 (λ e. omega (arith, first e)))) h
+pub numeral_from : (w : List ℕ) → all_digits w ≡ true → 0 < length w → (get_or w 0 0 ≡ 48 → length w ≡ 1) → numeral w ≡ true
+numeral_from [] h some first = absurd (omega arith)
+numeral_from (c ∷ []) h some first = (and_parts (is_digit c) true h).0
+numeral_from (c ∷ d ∷ cs) h some first = and_from (not (eqb c 48)) (all_digits (c ∷ d ∷ cs)) (not_from_false (eqb c 48) (ne_eqb c 48 (λ e. omega (arith, first e)))) h
 
 written : (w : List ℕ) (n : ℕ) (b : Bool) → (numeral w && leb (read_on 0 w) 1000000) ≡ b → cond b (Some (read_on 0 w)) None ≡ Some n → Writes w n
 written w n true e h =
     let same : read_on 0 w ≡ n = cc in
     let both = and_parts (numeral w) (leb (read_on 0 w) 1000000) e in
-    let parts = numeral-parts w both.0 in
+    let parts = numeral_parts w both.0 in
     let small : read_on 0 w ≤ 1000000 = leb-true (read_on 0 w) 1000000 both.1 in (
       sym (decimal-digits_value own w parts.0 parts.1 parts.2 (omega arith)) ∙ ap decimal same,
       omega arith,
     )
 written w n false e h = let z : ◌≡◌ {A = ℕ} 0 1 = cc in absurd (omega arith)
 
-first-zero : (n : ℕ) → n ≤ 1000000 → get_or (decimal n) 0 0 ≡ 48 → length (decimal n) ≡ 1
-first-zero n h e =
+first_zero : (n : ℕ) → n ≤ 1000000 → get_or (decimal n) 0 0 ≡ 48 → length (decimal n) ≡ 1
+first_zero n h e =
     elim (cases_lt 0 n) [
       | inl some ↦ absurd (omega (arith, first_decimal n some (omega arith)))
       | inr none ↦ ap length (decimal_digit n (omega arith))
     ]
 
-pub decimal-numeral : (n : ℕ) → n ≤ 1000000 → numeral (decimal n) ≡ true
-decimal-numeral n h = numeral-from (decimal n) (digits_decimal own n (omega arith)) (decimal_nonempty n (omega arith)) (first-zero n h)
+pub decimal_numeral : (n : ℕ) → n ≤ 1000000 → numeral (decimal n) ≡ true
+decimal_numeral n h = numeral_from (decimal n) (digits_decimal own n (omega arith)) (decimal_nonempty n (omega arith)) (first_zero n h)
 
-pub value-of-decimal : (n : ℕ) → n ≤ 1000000 → value_of (decimal n) ≡ Some n
-value-of-decimal n h =
+pub value_of_decimal : (n : ℕ) → n ≤ 1000000 → value_of (decimal n) ≡ Some n
+value_of_decimal n h =
     let back : read_on 0 (decimal n) ≡ n = digits_value-decimal own n (omega arith) in
-    cond-true (numeral (decimal n) && leb (read_on 0 (decimal n)) 1000000) (Some (read_on 0 (decimal n))) None (and_from (numeral (decimal n)) (leb (read_on 0 (decimal n)) 1000000) (decimal-numeral n h) (le-leb (read_on 0 (decimal n)) 1000000 (omega arith))) ∙ ap Some back
+    cond-true (numeral (decimal n) && leb (read_on 0 (decimal n)) 1000000) (Some (read_on 0 (decimal n))) None (and_from (numeral (decimal n)) (leb (read_on 0 (decimal n)) 1000000) (decimal_numeral n h) (le-leb (read_on 0 (decimal n)) 1000000 (omega arith))) ∙ ap Some back
 
-pub number-rule : (w : List ℕ) → NumberRule w
-number-rule w = (
+pub number_rule : (w : List ℕ) → NumberRule w
+number_rule w = (
   (λ n e. written w n (numeral w && leb (read_on 0 w) 1000000) refl e),
-  λ n h. ap value_of h.0 ∙ value-of-decimal n h.1,
+  λ n h. ap value_of h.0 ∙ value_of_decimal n h.1,
 )
 
-digits-lack-space : (w : List ℕ) → all_digits w ≡ true → lacks 32 w ≡ true
-digits-lack-space [] h = refl
-digits-lack-space (c ∷ w) h =
+digits_lack_space : (w : List ℕ) → all_digits w ≡ true → lacks 32 w ≡ true
+digits_lack_space [] h = refl
+digits_lack_space (c ∷ w) h =
     let parts = and_parts (is_digit c) (all_digits w) h in
     let low : 48 ≤ c = leb-true 48 c (and_parts (leb 48 c) (leb c 57) parts.0).0 in
-    and_from (not (eqb c 32)) (lacks 32 w) (not_from_false (eqb c 32) (ne_eqb c 32 (λ e. omega arith))) (digits-lack-space w parts.1)
+    and_from (not (eqb c 32)) (lacks 32 w) (not_from_false (eqb c 32) (ne_eqb c 32 (λ e. omega arith))) (digits_lack_space w parts.1)
 
-pub decimal-lacks-space : (n : ℕ) → n ≤ 1000000 → lacks 32 (decimal n) ≡ true
-decimal-lacks-space n h = digits-lack-space (decimal n) (digits_decimal own n (omega arith))
+pub decimal_lacks_space : (n : ℕ) → n ≤ 1000000 → lacks 32 (decimal n) ≡ true
+decimal_lacks_space n h = digits_lack_space (decimal n) (digits_decimal own n (omega arith))
 
 -- more digits never make less
 reads_up : (n : ℕ) (w : List ℕ) → n ≤ read_on n w
@@ -85,25 +85,25 @@ value_on w i n m h e is =
     let next = 10 * n + (get_or w i 0 - 48) in
     e ∙ ap (λ v. min v 1000001) (at_drop_more (read_on n) w i 0 h) ∙ sym (capped next 1000001 (drop (i + 1) w)) ∙ ap (λ v. min (read_on v (drop (i + 1) w)) 1000001) (sym is)
 
-pub value-end : (w : List ℕ) (i n : ℕ) → length w ≤ i → n ≤ 1000001 → min (read_on 0 w) 1000001 ≡ min (read_on n (drop i w)) 1000001 → n ≡ min (read_on 0 w) 1000001
-value-end w i n h small e = omega (arith, at_drop_all (read_on n) w i h)
+pub value_end : (w : List ℕ) (i n : ℕ) → length w ≤ i → n ≤ 1000001 → min (read_on 0 w) 1000001 ≡ min (read_on n (drop i w)) 1000001 → n ≡ min (read_on 0 w) 1000001
+value_end w i n h small e = omega (arith, at_drop_all (read_on n) w i h)
 
-and-true : (b : Bool) → b ≡ (b && true)
-and-true true = refl
-and-true false = refl
+and_true : (b : Bool) → b ≡ (b && true)
+and_true true = refl
+and_true false = refl
 
 front_by : (b p q x : Bool) → p ≡ true → q ≡ true → (not b && x) ≡ ((p && not (b && q)) && x)
 front_by true p q x e f = sym (ap (λ u. (u && not (true && q)) && x) e ∙ ap (λ u. (true && not (true && u)) && x) f)
 front_by false p q x e f = sym (ap (λ u. (u && not (false && q)) && x) e)
 
-numeral-by : (w : List ℕ) → numeral w ≡ (plain_front w && all_digits w)
-numeral-by [] = refl
-numeral-by (c ∷ []) =
+numeral_by : (w : List ℕ) → numeral w ≡ (plain_front w && all_digits w)
+numeral_by [] = refl
+numeral_by (c ∷ []) =
     elim (eqb c 48) as (λ b. is_digit c ≡ (not (b && false) && (is_digit c && true))) [
-      | true ↦ and-true (is_digit c)
-      | false ↦ and-true (is_digit c)
+      | true ↦ and_true (is_digit c)
+      | false ↦ and_true (is_digit c)
     ]
-numeral-by (c ∷ d ∷ cs) = front_by (eqb c 48) (ltb 0 (length (c ∷ d ∷ cs))) (ltb 1 (length (c ∷ d ∷ cs))) (all_digits (c ∷ d ∷ cs)) (lt-ltb 0 (length (c ∷ d ∷ cs)) (omega arith)) (lt-ltb 1 (length (c ∷ d ∷ cs)) (omega arith))
+numeral_by (c ∷ d ∷ cs) = front_by (eqb c 48) (ltb 0 (length (c ∷ d ∷ cs))) (ltb 1 (length (c ∷ d ∷ cs))) (all_digits (c ∷ d ∷ cs)) (lt-ltb 0 (length (c ∷ d ∷ cs)) (omega arith)) (lt-ltb 1 (length (c ∷ d ∷ cs)) (omega arith))
 
 -- the value of a word, by its front and its digits, of which the number is known only up to one above the limit
 module _ (w : List ℕ) where
@@ -111,26 +111,26 @@ module _ (w : List ℕ) where
   reading = cond (all_digits w) (Some (min (read_on 0 w) 1000001)) None
 
   pub no_front : plain_front w ≡ false → None ≡ value_of w
-  no_front e = sym (cond-false (numeral w && leb (read_on 0 w) 1000000) (Some (read_on 0 w)) None (and_left (numeral w) (leb (read_on 0 w) 1000000) (numeral-by w ∙ and_left (plain_front w) (all_digits w) e)))
+  no_front e = sym (cond-false (numeral w && leb (read_on 0 w) 1000000) (Some (read_on 0 w)) None (and_left (numeral w) (leb (read_on 0 w) 1000000) (numeral_by w ∙ and_left (plain_front w) (all_digits w) e)))
 
-  no-digits-by : (b : Bool) → all_digits w ≡ b → None ≡ cond b (Some (min (read_on 0 w) 1000001)) None → None ≡ value_of w
-  no-digits-by true e h = let z : ◌≡◌ {A = ℕ} 0 1 = cc in absurd (omega arith)
-  no-digits-by false e h = sym (cond-false (numeral w && leb (read_on 0 w) 1000000) (Some (read_on 0 w)) None (and_left (numeral w) (leb (read_on 0 w) 1000000) (numeral-by w ∙ and_right (plain_front w) (all_digits w) e)))
+  no_digits_by : (b : Bool) → all_digits w ≡ b → None ≡ cond b (Some (min (read_on 0 w) 1000001)) None → None ≡ value_of w
+  no_digits_by true e h = let z : ◌≡◌ {A = ℕ} 0 1 = cc in absurd (omega arith)
+  no_digits_by false e h = sym (cond-false (numeral w && leb (read_on 0 w) 1000000) (Some (read_on 0 w)) None (and_left (numeral w) (leb (read_on 0 w) 1000000) (numeral_by w ∙ and_right (plain_front w) (all_digits w) e)))
 
-  pub no-digits : None ≡ reading → None ≡ value_of w
-  no-digits h = no-digits-by (all_digits w) refl h
+  pub no_digits : None ≡ reading → None ≡ value_of w
+  no_digits h = no_digits_by (all_digits w) refl h
 
-  some-digits-by : (v : ℕ) (b : Bool) → all_digits w ≡ b → Some v ≡ cond b (Some (min (read_on 0 w) 1000001)) None → (all_digits w ≡ true) × (v ≡ min (read_on 0 w) 1000001)
-  some-digits-by v true e h = (e, cc)
-  some-digits-by v false e h = let z : ◌≡◌ {A = ℕ} 0 1 = cc in absurd (omega arith)
+  some_digits_by : (v : ℕ) (b : Bool) → all_digits w ≡ b → Some v ≡ cond b (Some (min (read_on 0 w) 1000001)) None → (all_digits w ≡ true) × (v ≡ min (read_on 0 w) 1000001)
+  some_digits_by v true e h = (e, cc)
+  some_digits_by v false e h = let z : ◌≡◌ {A = ℕ} 0 1 = cc in absurd (omega arith)
 
-  pub above-limit : (v : ℕ) → Some v ≡ reading → 1000000 < v → None ≡ value_of w
-  above-limit v h more =
-      let told = some-digits-by v (all_digits w) refl h in
+  pub above_limit : (v : ℕ) → Some v ≡ reading → 1000000 < v → None ≡ value_of w
+  above_limit v h more =
+      let told = some_digits_by v (all_digits w) refl h in
       sym (cond-false (numeral w && leb (read_on 0 w) 1000000) (Some (read_on 0 w)) None (and_right (numeral w) (leb (read_on 0 w) 1000000) (lt-leb (read_on 0 w) 1000000 (omega (arith, told.1)))))
 
-  pub within-limit : (v : ℕ) → plain_front w ≡ true → Some v ≡ reading → v ≤ 1000000 → Some v ≡ value_of w
-  within-limit v front h small =
-      let told = some-digits-by v (all_digits w) refl h in
+  pub within_limit : (v : ℕ) → plain_front w ≡ true → Some v ≡ reading → v ≤ 1000000 → Some v ≡ value_of w
+  within_limit v front h small =
+      let told = some_digits_by v (all_digits w) refl h in
       let same : v ≡ read_on 0 w = omega (arith, told.1) in
-      ap Some same ∙ sym (cond-true (numeral w && leb (read_on 0 w) 1000000) (Some (read_on 0 w)) None (and_from (numeral w) (leb (read_on 0 w) 1000000) (numeral-by w ∙ and_from (plain_front w) (all_digits w) front told.0) (le-leb (read_on 0 w) 1000000 (omega arith))))
+      ap Some same ∙ sym (cond-true (numeral w && leb (read_on 0 w) 1000000) (Some (read_on 0 w)) None (and_from (numeral w) (leb (read_on 0 w) 1000000) (numeral_by w ∙ and_from (plain_front w) (all_digits w) front told.0) (le-leb (read_on 0 w) 1000000 (omega arith))))

@@ -2,8 +2,8 @@ use Rattle.std.proofs.Common.{◌≡◌, ◌+◌, ◌<◌, ◌≤◌, min, lengt
 use Rattle.paced.specs.Makes.{fresh}
 use Rattle.arrivals.specs.Steps.{played, moved}
 use Rattle.arrivals.specs.Times.{AllAnswered}
-use Rattle.arrivals.proofs.Playing.{answersAt, end_at, answers-more, end_more, answers-all, end-all}
-use Rattle.arrivals.proofs.Following.{played-answered}
+use Rattle.arrivals.proofs.Playing.{answers_at, end_at, answers_more, end_more, answers_all, end_all}
+use Rattle.arrivals.proofs.Following.{played_answered}
 use Rattle.arrivals.proofs.replay.Goals as goal
 
 pub loop-place-init : goal.loop-place-init
@@ -16,7 +16,7 @@ loop-place-preserved c =
     let i = c.loop-place.place in
     let here : i < length ss = omega arith in
     let free : i < length bs = omega arith in (
-      c.loop-place.invariant.0 ∙ answers-more c.loop-place.part.row ss bs i _ here free ∙ (λ k. answersAt (sym c.make.ensures.after k) ss (set bs i (sym c.make.ensures.answer k)) (i + 1)),
+      c.loop-place.invariant.0 ∙ answers_more c.loop-place.part.row ss bs i _ here free ∙ (λ k. answers_at (sym c.make.ensures.after k) ss (set bs i (sym c.make.ensures.answer k)) (i + 1)),
       c.loop-place.invariant.1 ∙ end_more c.loop-place.part.row ss bs i _ here free ∙ (λ k. end_at (sym c.make.ensures.after k) ss (set bs i (sym c.make.ensures.answer k)) (i + 1)),
     )
 
@@ -32,6 +32,6 @@ returns c =
     let r = c.loop-place.part.row in
     let made = c.in_ok-part.ensures in
     let over : min (length ss) (length bs) ≤ i = omega arith in
-    let answers : bs ≡ played (fresh t j xs) ss first = sym (answers-all r ss bs i over) ∙ sym c.loop-place.invariant.0 ∙ ap (λ q. played q ss first) made.1 in
-    let end : r ≡ moved (fresh t j xs) ss first = sym (end-all r ss bs i over) ∙ sym c.loop-place.invariant.1 ∙ ap (λ q. moved q ss first) made.1 in
-    record { refused = made.0; played = (answers, end); explained = subst (AllAnswered t j xs ss) (sym answers) (played-answered t j xs ss first made.0) }
+    let answers : bs ≡ played (fresh t j xs) ss first = sym (answers_all r ss bs i over) ∙ sym c.loop-place.invariant.0 ∙ ap (λ q. played q ss first) made.1 in
+    let end : r ≡ moved (fresh t j xs) ss first = sym (end_all r ss bs i over) ∙ sym c.loop-place.invariant.1 ∙ ap (λ q. moved q ss first) made.1 in
+    record { refused = made.0; played = (answers, end); explained = subst (AllAnswered t j xs ss) (sym answers) (played_answered t j xs ss first made.0) }

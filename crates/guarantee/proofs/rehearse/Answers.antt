@@ -8,8 +8,8 @@ use Rattle.calls.specs.declared.Call.TheVariants.{Offer}
 use Rattle.guarantee.specs.Playing.{Fixed, Now, Did, Played}
 use Rattle.guarantee.specs.Promise.{begun, Modelled}
 use Rattle.guarantee.specs.Views.{plan_of, view_of}
-use Rattle.guarantee.proofs.Played.{played-more, played-whole}
-use Rattle.guarantee.proofs.Promising.{acceptable-accepted, accepted-bounds, modelled, model-keeps}
+use Rattle.guarantee.proofs.Played.{played_more, played_whole}
+use Rattle.guarantee.proofs.Promising.{acceptable_accepted, accepted_bounds, modelled, model_keeps}
 use Rattle.guarantee.proofs.rehearse.Goals as goal
 
 pub loop-place-preserved : goal.loop-place-preserved
@@ -27,7 +27,7 @@ loop-place-preserved g c =
     let same : here ≡ there = λ k. record { accepted = inv.accepted k; parts = inv.parts k; tasks = inv.tasks k; limits = inv.limits k } in
     let did = subst (λ f. Did g.G.Source.allowed g.G.Gate.takes g.G.Gate.ticks f (get_or c.args.calls.now i (Offer 0 0)) c.make.result now next) same c.make.ensures.did in
     record {
-      played = played-more g.G.Source.allowed g.G.Gate.takes g.G.Gate.ticks there c.args.calls.now c.loop-place.answers i (Offer 0 0) c.make.result start now next (omega arith) (omega arith) inv.played did;
+      played = played_more g.G.Source.allowed g.G.Gate.takes g.G.Gate.ticks there c.args.calls.now c.loop-place.answers i (Offer 0 0) c.make.result start now next (omega arith) (omega arith) inv.played did;
       accepted = fixed.1 ∙ inv.accepted;
       parts = fixed.2 ∙ inv.parts;
       tasks = fixed.4 ∙ inv.tasks;
@@ -46,7 +46,7 @@ returns-clause-played g c =
     let there : Fixed = record { accepted = first.accepted; parts = first.parts; tasks = first.table.count; limits = first.limits } in
     let start : Now g.row.G.Denot = record { bank = first.bank; rows = first.table.rows; state = first.state } in
     let end : Now g.row.G.Denot = record { bank = run.bank; rows = run.table.rows; state = run.state } in
-    let whole = played-whole g.G.Source.allowed g.G.Gate.takes g.G.Gate.ticks there c.args.calls.now c.loop-place.answers c.loop-place.place start end (omega arith) inv.played in
+    let whole = played_whole g.G.Source.allowed g.G.Gate.takes g.G.Gate.ticks there c.args.calls.now c.loop-place.answers c.loop-place.place start end (omega arith) inv.played in
     let tasks = c.judge.ensures.tasks in
     let bank : first.bank ≡ plan.bank = begins.bank ∙ c.judge.ensures.bank in
     let rows : first.table.rows ≡ plan.tasks.parts.rows = ap (λ t. t.rows) begins.table ∙ ap (λ t. t.parts.rows) tasks in
@@ -68,7 +68,7 @@ returns-clause-parts g c taken =
     let v = c.judge.result.verdict in
     let parts = g.G.Source.parts in
     let accepted : is_accepted v ≡ true = sym begins.accepted ∙ sym inv.accepted ∙ taken in
-    let few = (accepted-bounds (g.G.Source.demanded plan.bank) (parts plan.bank) tasks.limits table.count table.rows v c.judge.result.bounds c.judge.ensures.judged accepted).0 in
+    let few = (accepted_bounds (g.G.Source.demanded plan.bank) (parts plan.bank) tasks.limits table.count table.rows v c.judge.result.bounds c.judge.ensures.judged accepted).0 in
     inv.parts ∙ begins.parts ∙ ap (λ b. cond b (min (parts c.judge.result.bank) 16) 0) accepted ∙ ap (λ b. min (parts b) 16) c.judge.ensures.bank ∙ omega (arith, few)
 
 pub returns-clause-stepped : goal.returns-clause-stepped
@@ -84,7 +84,7 @@ returns-clause-stepped g c ok =
     let demanded = g.G.Source.demanded in
     let allowed = g.G.Source.allowed in
     let judged = c.judge.ensures.judged in
-    let accepted : is_accepted v ≡ true = acceptable-accepted (demanded plan.bank) (parts plan.bank) tasks.limits table.count table.rows v c.judge.result.bounds judged ok in
+    let accepted : is_accepted v ≡ true = acceptable_accepted (demanded plan.bank) (parts plan.bank) tasks.limits table.count table.rows v c.judge.result.bounds judged ok in
     let taken : run.accepted ≡ true = inv.accepted ∙ begins.accepted ∙ accepted in
     let bounds : run.bounds ≡ c.judge.result.bounds = inv.bounds ∙ begins.bounds in
     let many : run.parts ≡ parts plan.bank = returns-clause-parts g c taken in
@@ -101,8 +101,8 @@ pub returns-clause-guaranteed : goal.returns-clause-guaranteed
 returns-clause-guaranteed g c ok =
     let plan = c.args.plan in
     let table = plan.tasks.parts in
-    let accepted : is_accepted c.judge.result.verdict ≡ true = acceptable-accepted (g.G.Source.demanded plan.bank) (g.G.Source.parts plan.bank) plan.tasks.limits table.count table.rows c.judge.result.verdict c.judge.result.bounds c.judge.ensures.judged ok in
-    (c.loop-place.invariant.accepted ∙ c.start-run.ensures.accepted ∙ accepted, model-keeps _ _ _ _ (returns-clause-stepped g c ok))
+    let accepted : is_accepted c.judge.result.verdict ≡ true = acceptable_accepted (g.G.Source.demanded plan.bank) (g.G.Source.parts plan.bank) plan.tasks.limits table.count table.rows c.judge.result.verdict c.judge.result.bounds c.judge.ensures.judged ok in
+    (c.loop-place.invariant.accepted ∙ c.start-run.ensures.accepted ∙ accepted, model_keeps _ _ _ _ (returns-clause-stepped g c ok))
 
 pub returns-clause-fixed : goal.returns-clause-fixed
 returns-clause-fixed g c =

@@ -1,8 +1,8 @@
 use Rattle.std.proofs.Common.{◌≡◌, ◌≤◌, max, length, sym, refl, ap, ◌∙◌, arith}
 use Rattle.cycles.specs.Round.{met}
-use Rattle.cycles.proofs.Rounds.{met-first}
+use Rattle.cycles.proofs.Rounds.{met_first}
 use Rattle.paced.specs.Runs.{at}
-use Rattle.paced.proofs.Runs.{turn, turn_at, front_length, front-small, front-sum, end-within, window-small, window-slides, best-grows}
+use Rattle.paced.proofs.Runs.{turn, turn_at, front_length, front_small, front_sum, end_within, window_small, window_slides, best_grows}
 use Rattle.paced.proofs.row.largest_part.Goals as goal
 
 pub whole-window-requires : goal.whole-window-requires
@@ -10,7 +10,7 @@ whole-window-requires c =
     let short : c.args.m ≤ length c.args.costs.now = omega arith in
     record {
       few = omega (arith, front_length c.args.costs.now c.args.m short);
-      small = front-small c.args.costs.now c.args.m short c.requires.small;
+      small = front_small c.args.costs.now c.args.m short c.requires.small;
     }
 
 pub loop-place-init : goal.loop-place-init
@@ -20,18 +20,18 @@ loop-place-init c =
     let n = length xs in
     let short : m ≤ n = omega arith in
     let first : turn n 0 ≡ 0 = turn_at n 0 (omega arith) in
-    (c.whole-window.ensures ∙ front-sum xs m short ∙ sym (met-first n (at xs) m short) ∙ ap (λ k. met n (at xs) k m) (sym first), refl)
+    (c.whole-window.ensures ∙ front_sum xs m short ∙ sym (met_first n (at xs) m short) ∙ ap (λ k. met n (at xs) k m) (sym first), refl)
 
 pub bounds-costs-end : goal.bounds-costs-end
-bounds-costs-end c = end-within c.args.costs.now c.args.m c.loop-place.place c.loop-place.window c.loop-place.best c.loop-place-test.true c.requires.short c.loop-place.invariant.0 c.wrapped-end.result c.wrapped-end.ensures
+bounds-costs-end c = end_within c.args.costs.now c.args.m c.loop-place.place c.loop-place.window c.loop-place.best c.loop-place-test.true c.requires.short c.loop-place.invariant.0 c.wrapped-end.result c.wrapped-end.ensures
 
 pub overflow_add-window : goal.overflow_add-window
-overflow_add-window c = omega (arith, window-small c.args.costs.now c.args.m c.loop-place.place c.loop-place.window c.loop-place.best c.loop-place-test.true c.requires.short c.loop-place.invariant.0 c.requires.small, c.requires.small c.wrapped-end.result)
+overflow_add-window c = omega (arith, window_small c.args.costs.now c.args.m c.loop-place.place c.loop-place.window c.loop-place.best c.loop-place-test.true c.requires.short c.loop-place.invariant.0 c.requires.small, c.requires.small c.wrapped-end.result)
 
 pub overflow_sub-window : goal.overflow_sub-window
-overflow_sub-window c = omega (arith, window-slides c.args.costs.now c.args.m c.loop-place.place c.loop-place.window c.loop-place.best c.loop-place-test.true c.requires.short c.loop-place.invariant.0 c.wrapped-end.result c.wrapped-end.ensures)
+overflow_sub-window c = omega (arith, window_slides c.args.costs.now c.args.m c.loop-place.place c.loop-place.window c.loop-place.best c.loop-place-test.true c.requires.short c.loop-place.invariant.0 c.wrapped-end.result c.wrapped-end.ensures)
 
 pub loop-place-preserved : goal.loop-place-preserved
 loop-place-preserved c =
     let larger : c.max-best.result ≡ max c.loop-place.best c.loop-place.window = grind arith in
-    (omega (arith, window-slides c.args.costs.now c.args.m c.loop-place.place c.loop-place.window c.loop-place.best c.loop-place-test.true c.requires.short c.loop-place.invariant.0 c.wrapped-end.result c.wrapped-end.ensures), larger ∙ best-grows c.args.costs.now c.args.m c.loop-place.place c.loop-place.window c.loop-place.best c.loop-place-test.true c.requires.short c.loop-place.invariant.0 c.loop-place.invariant.1)
+    (omega (arith, window_slides c.args.costs.now c.args.m c.loop-place.place c.loop-place.window c.loop-place.best c.loop-place-test.true c.requires.short c.loop-place.invariant.0 c.wrapped-end.result c.wrapped-end.ensures), larger ∙ best_grows c.args.costs.now c.args.m c.loop-place.place c.loop-place.window c.loop-place.best c.loop-place-test.true c.requires.short c.loop-place.invariant.0 c.loop-place.invariant.1)

@@ -1,13 +1,13 @@
 use Rattle.std.proofs.Common.{◌≡◌, ◌-◌, ◌++◌, length, get_or, take, set, replicate, ap, ◌∙◌, arith}
 use Rattle.std.proofs.lemmas.List.{take_all}
-use Rattle.paced.proofs.Makings.{padded-more}
+use Rattle.paced.proofs.Makings.{padded_more}
 use Rattle.paced.proofs.row.padded.Goals as goal
 
 pub loop-place-preserved : goal.loop-place-preserved
 loop-place-preserved c =
     let xs = c.args.costs.now in
     let i = c.loop-place.place in
-    ap (λ t. set t i (get_or xs i 0)) c.loop-place.invariant ∙ padded-more xs i c.loop-place-test.true (omega arith)
+    ap (λ t. set t i (get_or xs i 0)) c.loop-place.invariant ∙ padded_more xs i c.loop-place-test.true (omega arith)
 
 pub returns : goal.returns
 returns c =

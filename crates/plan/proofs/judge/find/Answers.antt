@@ -1,7 +1,7 @@
 use Rattle.std.proofs.Common.{◌≡◌, ◌+◌, ◌<◌, length, get_or, sym, ◌∙◌, subst, arith, length-set}
 use Rattle.plan.specs.Judged.{Bounded, Judged, Unbounded}
 use Rattle.plan.specs.declared.verdict.Verdict.TheVariants.{Late}
-use Rattle.plan.proofs.Bounds.{bound-more}
+use Rattle.plan.proofs.Bounds.{bound_more}
 use Rattle.plan.proofs.judge.find.Goals as goal
 
 pub returns-in-None : goal.returns-in-None
@@ -24,5 +24,5 @@ loop-place-preserved g c =
     let t = c.args.tasks.now in
     let room : c.loop-place.place < length c.loop-place.bounds = omega (arith, c.loop-place.invariant.0, c.count-count.ensures, t.parts.few) in (
       length-set c.loop-place.bounds c.loop-place.place c.in-Some.ticks ∙ c.loop-place.invariant.0,
-      bound-more (Bounded (g.S.Source.demanded b) (g.S.Source.parts b) t.limits t.parts.count t.parts.rows) c.loop-place.bounds c.loop-place.place c.in-Some.ticks room c.loop-place.invariant.1 c.in-Some.ensures,
+      bound_more (Bounded (g.S.Source.demanded b) (g.S.Source.parts b) t.limits t.parts.count t.parts.rows) c.loop-place.bounds c.loop-place.place c.in-Some.ticks room c.loop-place.invariant.1 c.in-Some.ensures,
     )

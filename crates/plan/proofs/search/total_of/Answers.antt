@@ -1,6 +1,6 @@
 use Rattle.std.proofs.Common.{◌≡◌, ◌+◌, ap, ◌∙◌, arith}
 use Rattle.plan.specs.Needs.{total}
-use Rattle.plan.proofs.Totals.{asked, total-on, total-small}
+use Rattle.plan.proofs.Totals.{asked, total_on, total_small}
 use Rattle.plan.proofs.search.total_of.Goals as goal
 
 pub overflow_add-all : goal.overflow_add-all
@@ -11,7 +11,7 @@ overflow_add-all g c =
     let k = c.loop-place.place in
     let l = c.args.ticks in
     let here = asked (g.S.Source.parts s) k l (d (k + 1) l) c.demand.result (omega arith) c.requires.window c.demand.ensures in
-    omega (arith, here, c.unwrap_or-all.ensures, c.loop-place.invariant, sound.small (k + 1) l c.requires.window, total-small (g.S.Source.parts s) d (g.S.Source.allowed s) sound k l c.requires.window)
+    omega (arith, here, c.unwrap_or-all.ensures, c.loop-place.invariant, sound.small (k + 1) l c.requires.window, total_small (g.S.Source.parts s) d (g.S.Source.allowed s) sound k l c.requires.window)
 
 pub loop-place-preserved : goal.loop-place-preserved
 loop-place-preserved g c =
@@ -20,7 +20,7 @@ loop-place-preserved g c =
     let k = c.loop-place.place in
     let l = c.args.ticks in
     let here = asked (g.S.Source.parts s) k l (d (k + 1) l) c.demand.result (omega arith) c.requires.window c.demand.ensures in
-    omega (arith, here, c.unwrap_or-all.ensures, c.loop-place.invariant, total-on d k l)
+    omega (arith, here, c.unwrap_or-all.ensures, c.loop-place.invariant, total_on d k l)
 
 pub returns : goal.returns
 returns g c =
@@ -30,4 +30,4 @@ returns g c =
     let l = c.args.ticks in
     let end : c.loop-place.place ≡ c.args.parts = omega arith in
     let value : c.loop-place.all ≡ total d c.args.parts l = c.loop-place.invariant ∙ ap (λ k. total d k l) end in
-    record { value = value; small = omega (arith, value, total-small (g.S.Source.parts s) d (g.S.Source.allowed s) sound c.args.parts l c.requires.window) }
+    record { value = value; small = omega (arith, value, total_small (g.S.Source.parts s) d (g.S.Source.allowed s) sound c.args.parts l c.requires.window) }

@@ -1,8 +1,8 @@
 use Rattle.std.proofs.Common.{ℕ, ◌<◌, ◌≤◌, arith}
 use Rattle.paced.specs.Tables.{row_at}
-use Rattle.paced.specs.Together.{table-sound}
+use Rattle.paced.specs.Together.{table_sound}
 use Rattle.plan.specs.Needs.{needed}
-use Rattle.plan.proofs.Climbing.{needed-rises, climbs, none_within}
+use Rattle.plan.proofs.Climbing.{needed_rises, climbs, none_within}
 use Rattle.plan.proofs.search.window_of.Goals as goal
 
 pub returns-then-need-from-2 : goal.returns-then-need-from-2
@@ -11,8 +11,8 @@ returns-then-need-from-2 g c =
     let t = c.args.tasks.now in
     let p = t.parts in
     let f : ℕ → ℕ = needed (g.S.Source.demanded b) (g.S.Source.parts b) t.limits p.count p.rows c.args.place in
-    let tasks = table-sound p.count (row_at p.rows) (omega (arith, p.few)) (λ i h. record { paces = p.paces i h; places = p.places i h; costs = p.costs i h }) in
-    let rises : (l m : ℕ) → l ≤ m → f l ≤ f m = needed-rises (g.S.Source.parts b) (g.S.Source.demanded b) (g.S.Source.allowed b) (g.met.S.Source.sound b) t.limits p.count p.rows tasks c.args.place in
+    let tasks = table_sound p.count (row_at p.rows) (omega (arith, p.few)) (λ i h. record { paces = p.paces i h; places = p.places i h; costs = p.costs i h }) in
+    let rises : (l m : ℕ) → l ≤ m → f l ≤ f m = needed_rises (g.S.Source.parts b) (g.S.Source.demanded b) (g.S.Source.allowed b) (g.met.S.Source.sound b) t.limits p.count p.rows tasks c.args.place in
     let late : c.deadline-deadline.result < f c.loop-ticks.ticks = omega (arith, c.need_of-need.ensures, c.from-in-loop-ticks.ensures) in
     λ l h k. none_within f rises c.loop-ticks.ticks c.loop-ticks.invariant.1 c.deadline-deadline.result late l h (omega (arith, c.deadline-deadline.ensures.value))
 
@@ -22,6 +22,6 @@ loop-ticks-preserved g c =
     let t = c.args.tasks.now in
     let p = t.parts in
     let f : ℕ → ℕ = needed (g.S.Source.demanded b) (g.S.Source.parts b) t.limits p.count p.rows c.args.place in
-    let tasks = table-sound p.count (row_at p.rows) (omega (arith, p.few)) (λ i h. record { paces = p.paces i h; places = p.places i h; costs = p.costs i h }) in
-    let rises : (l m : ℕ) → l ≤ m → f l ≤ f m = needed-rises (g.S.Source.parts b) (g.S.Source.demanded b) (g.S.Source.allowed b) (g.met.S.Source.sound b) t.limits p.count p.rows tasks c.args.place in
+    let tasks = table_sound p.count (row_at p.rows) (omega (arith, p.few)) (λ i h. record { paces = p.paces i h; places = p.places i h; costs = p.costs i h }) in
+    let rises : (l m : ℕ) → l ≤ m → f l ≤ f m = needed_rises (g.S.Source.parts b) (g.S.Source.demanded b) (g.S.Source.allowed b) (g.met.S.Source.sound b) t.limits p.count p.rows tasks c.args.place in
     (omega arith, λ m h l. climbs f rises c.loop-ticks.ticks c.loop-ticks.invariant.1 m h (omega (arith, c.need_of-need.ensures)))

@@ -1,7 +1,7 @@
 use Rattle.run.specs.Steps.{ended}
 use Rattle.run.proofs.Faults.{endable}
 use Rattle.run.proofs.Held.{steady, held}
-use Rattle.run.proofs.Steady.{ended-steady, ended-lasting}
+use Rattle.run.proofs.Steady.{ended_steady, ended_lasting}
 use Rattle.run.proofs.Run.end.Goals as goal
 
 pub invariant_of-self : goal.invariant_of-self
@@ -11,4 +11,4 @@ invariant_of-self g c =
     let n = s.table.count in
     let task = endable s.accepted n s.state.jobs i c.end_fault.ensures c.in_default.is in
     let before = steady s in
-    held s (ended s.state i) c.ended-self.ensures (ended-steady s.limits n s.state before i task.0) (ended-lasting s.limits n s.state before s.some i)
+    held s (ended s.state i) c.ended-self.ensures (ended_steady s.limits n s.state before i task.0) (ended_lasting s.limits n s.state before s.some i)

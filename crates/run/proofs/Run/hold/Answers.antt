@@ -1,7 +1,7 @@
 use Rattle.run.specs.Steps.{granted}
 use Rattle.run.proofs.Faults.{holdable}
 use Rattle.run.proofs.Held.{steady, held}
-use Rattle.run.proofs.Steady.{granted-steady}
+use Rattle.run.proofs.Steady.{granted_steady}
 use Rattle.run.proofs.Run.hold.Goals as goal
 
 pub invariant_of-self : goal.invariant_of-self
@@ -11,4 +11,4 @@ invariant_of-self g c =
     let u = c.args.units in
     let n = s.table.count in
     let task = holdable s.accepted n s.limits s.state i u c.hold_fault.ensures c.in_default.is in
-    held s (granted s.state i u) c.granted-self.ensures (granted-steady s.limits n s.state (steady s) i u task.last task.within task.short) (λ _. task.some)
+    held s (granted s.state i u) c.granted-self.ensures (granted_steady s.limits n s.state (steady s) i u task.last task.within task.short) (λ _. task.some)

@@ -1,11 +1,11 @@
 use Rattle.std.proofs.Common.{arith}
-use Rattle.source.proofs.Parts.{part-from, offerable-from}
+use Rattle.source.proofs.Parts.{part_from, offerable_from}
 use Rattle.paced.specs.Tables.{row_at, allowances_of}
 use Rattle.run.specs.Steps.{released}
 use Rattle.run.proofs.Faults.{releasable}
-use Rattle.run.proofs.Held.{steady, held-paced}
-use Rattle.run.proofs.Paces.{given-deadlines}
-use Rattle.run.proofs.Steady.{released-steady}
+use Rattle.run.proofs.Held.{steady, held_paced}
+use Rattle.run.proofs.Paces.{given_deadlines}
+use Rattle.run.proofs.Steady.{released_steady}
 use Rattle.run.proofs.Run.release.Goals as goal
 
 pub given-self-requires : goal.given-self-requires
@@ -16,7 +16,7 @@ given-self-requires g c =
     let n = s.table.count in
     let a = allowances_of n (row_at s.table.rows) in
     let task = releasable s.accepted n (a i 1) s.state.jobs i u c.release_fault.ensures c.in_default.is in
-    offerable-from n a i u (part-from n i task.first task.last) task.some task.allowed
+    offerable_from n a i u (part_from n i task.first task.last) task.some task.allowed
 
 pub invariant_of-self : goal.invariant_of-self
 invariant_of-self g c =
@@ -28,5 +28,5 @@ invariant_of-self g c =
     let t = c.given-self.result in
     let task = releasable s.accepted n (allowances_of n (row_at rows) i 1) s.state.jobs i u c.release_fault.ensures c.in_default.is in
     let moved = c.given-self.ensures.gives in
-    let paced = given-deadlines s.limits n rows i u t.count t.rows (omega (arith, s.table.held, s.table.few)) moved s.deadlines in
-    held-paced s t.count t.rows (released s.state i u) moved.count paced c.released-self.ensures (released-steady s.limits n s.state (steady s) s.some i u task.first task.none) s.some
+    let paced = given_deadlines s.limits n rows i u t.count t.rows (omega (arith, s.table.held, s.table.few)) moved s.deadlines in
+    held_paced s t.count t.rows (released s.state i u) moved.count paced c.released-self.ensures (released_steady s.limits n s.state (steady s) s.some i u task.first task.none) s.some

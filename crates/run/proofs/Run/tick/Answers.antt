@@ -1,8 +1,8 @@
 use Rattle.std.proofs.Common.{arith}
 use Rattle.run.specs.Steps.{served, aged, passed}
-use Rattle.run.proofs.Held.{steady, held-paced}
-use Rattle.run.proofs.Paces.{later-deadlines}
-use Rattle.run.proofs.Steady.{passed-steady, settled-lasting}
+use Rattle.run.proofs.Held.{steady, held_paced}
+use Rattle.run.proofs.Paces.{later_deadlines}
+use Rattle.run.proofs.Steady.{passed_steady, settled_lasting}
 use Rattle.run.proofs.Run.tick.Goals as goal
 
 pub invariant_of-self : goal.invariant_of-self
@@ -12,5 +12,5 @@ invariant_of-self g c =
     let t = c.ticked-self.result in
     let got = c.due-got.result in
     let moved = c.ticked-self.ensures.passes in
-    let paced = later-deadlines s.limits n s.table.rows t.count t.rows (omega (arith, s.table.held, s.table.few)) moved s.deadlines in
-    held-paced s t.count t.rows (passed s.state got) moved.count paced c.passed-state.ensures (passed-steady s.limits n s.state (steady s) got c.due-got.ensures.placed) (settled-lasting (aged (served s.state got)))
+    let paced = later_deadlines s.limits n s.table.rows t.count t.rows (omega (arith, s.table.held, s.table.few)) moved s.deadlines in
+    held_paced s t.count t.rows (passed s.state got) moved.count paced c.passed-state.ensures (passed_steady s.limits n s.state (steady s) got c.due-got.ensures.placed) (settled_lasting (aged (served s.state got)))

@@ -1,5 +1,5 @@
 use Rattle.std.proofs.Common.{set, ap, ◌∙◌, arith}
-use Rattle.run.proofs.Ticks.{ages-on}
+use Rattle.run.proofs.Ticks.{ages_on}
 use Rattle.run.proofs.steps.aged.Goals as goal
 
 pub loop-job-preserved : goal.loop-job-preserved
@@ -7,4 +7,4 @@ loop-job-preserved c =
     let jobs = c.args.state.jobs in
     let ys = c.loop-job.job-items in
     let i = c.loop-job.job-index in
-    ap (set ys i) c.pass.ensures ∙ ages-on jobs ys i (omega arith) c.loop-job.invariant
+    ap (set ys i) c.pass.ensures ∙ ages_on jobs ys i (omega arith) c.loop-job.invariant

@@ -1,29 +1,29 @@
 use Rattle.std.proofs.Common.{◌≡◌, ◌+◌, ◌-◌, max, length, ap, ◌∙◌, arith}
 use Rattle.cycles.specs.Round.{top}
-use Rattle.cycles.proofs.Rounds.{sum-on, top-on}
+use Rattle.cycles.proofs.Rounds.{sum_on, top_on}
 use Rattle.schedule.specs.Phases.{length_of}
 use Rattle.schedule.specs.Twice.{met_from}
-use Rattle.schedule.proofs.Slots.{sum-small, window-is, pairs-are-worst}
+use Rattle.schedule.proofs.Slots.{sum_small, window_is, pairs_are_worst}
 use Rattle.schedule.proofs.slot.largest_met.Goals as goal
 
 pub overflow_sub-reach : goal.overflow_sub-reach
 overflow_sub-reach c =
-    let met = window-is c.args.cycle c.args.slots.now c.requires.rising c.requires.below c.args.ticks c.loop-start.start c.moved_on-reach.result.end c.loop-start-test.true c.requires.ticks c.moved_on-reach.ensures.end c.moved_on-reach.ensures.before c.moved_on-reach.ensures.after in
+    let met = window_is c.args.cycle c.args.slots.now c.requires.rising c.requires.below c.args.ticks c.loop-start.start c.moved_on-reach.result.end c.loop-start-test.true c.requires.ticks c.moved_on-reach.ensures.end c.moved_on-reach.ensures.before c.moved_on-reach.ensures.after in
     omega (arith, c.loop-start.invariant.0, c.moved_on-reach.ensures.sum)
 
 pub overflow_add-passed : goal.overflow_add-passed
-overflow_add-passed c = omega (arith, c.loop-start.invariant.0, sum-small c.args.slots.now c.requires.lengths c.loop-start.start, c.requires.lengths c.loop-start.start)
+overflow_add-passed c = omega (arith, c.loop-start.invariant.0, sum_small c.args.slots.now c.requires.lengths c.loop-start.start, c.requires.lengths c.loop-start.start)
 
-largest-is : (c : goal.After-max-best) → c.max-best.result ≡ max c.loop-start.best (c.moved_on-reach.result.sum - c.loop-start.passed)
-largest-is c = grind arith
+largest_is : (c : goal.After-max-best) → c.max-best.result ≡ max c.loop-start.best (c.moved_on-reach.result.sum - c.loop-start.passed)
+largest_is c = grind arith
 
 pub loop-start-preserved : goal.loop-start-preserved
 loop-start-preserved c =
     let slots = c.args.slots.now in
     let i = c.loop-start.start in
-    let met = window-is c.args.cycle c.args.slots.now c.requires.rising c.requires.below c.args.ticks c.loop-start.start c.moved_on-reach.result.end c.loop-start-test.true c.requires.ticks c.moved_on-reach.ensures.end c.moved_on-reach.ensures.before c.moved_on-reach.ensures.after in (
-      omega (arith, c.loop-start.invariant.0, sum-on (length_of slots) i),
-      omega (arith, largest-is c, c.loop-start.invariant.0, c.loop-start.invariant.1, c.moved_on-reach.ensures.sum, top-on (met_from c.args.cycle (length slots) slots c.args.ticks) i),
+    let met = window_is c.args.cycle c.args.slots.now c.requires.rising c.requires.below c.args.ticks c.loop-start.start c.moved_on-reach.result.end c.loop-start-test.true c.requires.ticks c.moved_on-reach.ensures.end c.moved_on-reach.ensures.before c.moved_on-reach.ensures.after in (
+      omega (arith, c.loop-start.invariant.0, sum_on (length_of slots) i),
+      omega (arith, largest_is c, c.loop-start.invariant.0, c.loop-start.invariant.1, c.moved_on-reach.ensures.sum, top_on (met_from c.args.cycle (length slots) slots c.args.ticks) i),
       omega (arith, c.moved_on-reach.ensures.end),
       c.moved_on-reach.ensures.sum,
       λ h j l. omega (arith, c.moved_on-reach.ensures.before j l, c.requires.rising i (i + 1) (omega arith) h),
@@ -33,4 +33,4 @@ pub returns : goal.returns
 returns c =
     let slots = c.args.slots.now in
     let end : c.loop-start.start ≡ length slots = omega arith in
-    c.loop-start.invariant.1 ∙ ap (top (met_from c.args.cycle (length slots) slots c.args.ticks)) end ∙ pairs-are-worst c.args.cycle slots c.requires.rising c.requires.below c.args.ticks (omega arith)
+    c.loop-start.invariant.1 ∙ ap (top (met_from c.args.cycle (length slots) slots c.args.ticks)) end ∙ pairs_are_worst c.args.cycle slots c.requires.rising c.requires.below c.args.ticks (omega arith)

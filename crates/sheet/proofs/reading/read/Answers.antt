@@ -3,15 +3,15 @@ use Rattle.std.proofs.lemmas.Result.{err_from_is_err_and}
 use Rattle.std.proofs.lemmas.Bool.{eqb-false}
 use Rattle.words.specs.Split.{pieces}
 use Rattle.sheet.specs.Reading.{and_then, read_on}
-use Rattle.sheet.proofs.Lining.{short-enough, line_first, line-open}
+use Rattle.sheet.proofs.Lining.{short_enough, line_first, line_open}
 use Rattle.sheet.proofs.reading.read.Goals as goal
 
 pub returns-in_default : goal.returns-in_default
 returns-in_default c =
     let sheet = c.args.sheet.now in
     let more : 1 ≤ length sheet = omega (arith, eqb-false (length sheet) 0 (sym c.if-is_empty.ensures)) in
-    short-enough sheet c.if-sheet-gt-LONGEST_SHEET.false
-    ∙ line-open 0 None sheet more c.in_default.ensures
+    short_enough sheet c.if-sheet-gt-LONGEST_SHEET.false
+    ∙ line_open 0 None sheet more c.in_default.ensures
     ∙ (λ i. Err (record { fault = sym c.new-in_default.ensures.fault i; line = sym c.new-in_default.ensures.line i; task = sym c.new-in_default.ensures.task i }))
 
 pub returns-in_err-draft : goal.returns-in_err-draft
@@ -22,7 +22,7 @@ returns-in_err-draft c =
     let p = err_from_is_err_and c.from_residual.result c.from_residual.ensures.1 in
     rw (p.1, p.2)
     (
-    short-enough sheet c.if-sheet-gt-LONGEST_SHEET.false
+    short_enough sheet c.if-sheet-gt-LONGEST_SHEET.false
     ∙ line_first 0 None sheet c.in-Some.bytes.now rest line.0 line.1
     ∙ ap (λ r. and_then r (λ q. read_on 1 (Some q) (pieces 10 rest))) c.in_err-draft.ensures
     )
@@ -35,7 +35,7 @@ returns-in_err-lines c =
     let p = err_from_is_err_and c.from_residual-in_err-lines.result c.from_residual-in_err-lines.ensures.1 in
     rw (p.1, p.2)
     (
-    short-enough sheet c.if-sheet-gt-LONGEST_SHEET.false
+    short_enough sheet c.if-sheet-gt-LONGEST_SHEET.false
     ∙ line_first 0 None sheet c.in-Some.bytes.now rest line.0 line.1
     ∙ ap (λ r. and_then r (λ q. read_on 1 (Some q) (pieces 10 rest))) c.in_ok-draft.ensures
     ∙ c.in_err-lines.ensures
@@ -46,7 +46,7 @@ returns c =
     let sheet = c.args.sheet.now in
     let rest = c.in-Some.rest.now in
     let line = c.in-Some.ensures in
-    short-enough sheet c.if-sheet-gt-LONGEST_SHEET.false
+    short_enough sheet c.if-sheet-gt-LONGEST_SHEET.false
     ∙ line_first 0 None sheet c.in-Some.bytes.now rest line.0 line.1
     ∙ ap (λ r. and_then r (λ q. read_on 1 (Some q) (pieces 10 rest))) c.in_ok-draft.ensures
     ∙ c.in_ok-lines.ensures

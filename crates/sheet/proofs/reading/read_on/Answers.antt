@@ -4,7 +4,7 @@ use Rattle.std.proofs.lemmas.Bool.{eqb-true, eqb-false}
 use Rattle.words.specs.Split.{pieces}
 use Rattle.sheet.specs.Reading.{and_then, read_on}
 use Rattle.sheet.specs.Views.{view}
-use Rattle.sheet.proofs.Lining.{line_first, line-open, at-end}
+use Rattle.sheet.proofs.Lining.{line_first, line_open, at_end}
 use Rattle.sheet.proofs.reading.read_on.Goals as goal
 
 pub returns-in_default : goal.returns-in_default
@@ -13,7 +13,7 @@ returns-in_default c =
     let so_far = Some (view c.loop-rest.draft) in
     let more : 1 ≤ length rest = omega (arith, eqb-false (length rest) 0 (sym c.loop-rest-test.ensures)) in
     sym c.loop-rest.invariant.1
-    ∙ line-open c.loop-rest.lines so_far rest more c.in_default.ensures
+    ∙ line_open c.loop-rest.lines so_far rest more c.in_default.ensures
     ∙ (λ i. Err (record { fault = sym c.new.ensures.fault i; line = sym c.new.ensures.line i; task = sym c.new.ensures.task i }))
 
 pub returns-in_err-step : goal.returns-in_err-step
@@ -45,4 +45,4 @@ pub returns : goal.returns
 returns c =
     let rest = c.loop-rest.rest.now in
     sym c.loop-rest.invariant.1
-    ∙ at-end c.loop-rest.lines (Some (view c.loop-rest.draft)) rest (eqb-true (length rest) 0 (sym c.loop-rest-test.ensures))
+    ∙ at_end c.loop-rest.lines (Some (view c.loop-rest.draft)) rest (eqb-true (length rest) 0 (sym c.loop-rest-test.ensures))

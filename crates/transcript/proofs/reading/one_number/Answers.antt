@@ -2,7 +2,7 @@ use Rattle.std.proofs.Common.{sym, refl, ap, ◌∙◌}
 use Rattle.std.specs.Bool.{then_some}
 use Rattle.lines.proofs.Begun.{begin, ◌▸◌, missing}
 use Rattle.transcript.specs.Calls.{one}
-use Rattle.transcript.proofs.Ending.{given-at-end}
+use Rattle.transcript.proofs.Ending.{given_at_end}
 use Rattle.transcript.proofs.reading.one_number.Goals as goal
 
 pub returns-in_err-number : goal.returns-in_err-number
@@ -13,4 +13,4 @@ returns c =
     let n = c.in_ok-number.number in
     c.then_some.ensures
     ∙ ap (λ b. then_some b n) c.is_empty.ensures
-    ∙ given-at-end one refl n (begin c.args.rest.now ▸ c.in_ok-number.ensures) refl (λ m ns. refl)
+    ∙ given_at_end one refl n (begin c.args.rest.now ▸ c.in_ok-number.ensures) refl (λ m ns. refl)

@@ -2,7 +2,7 @@ use Rattle.std.proofs.Common.{ℕ, sym, refl, ap, ◌∙◌}
 use Rattle.std.specs.Bool.{then_some}
 use Rattle.lines.proofs.Begun.{begin, ◌▸◌, missing}
 use Rattle.transcript.specs.Calls.{two}
-use Rattle.transcript.proofs.Ending.{given-at-end}
+use Rattle.transcript.proofs.Ending.{given_at_end}
 use Rattle.transcript.proofs.reading.two_numbers.Goals as goal
 
 pub returns-in_err-first : goal.returns-in_err-first
@@ -16,4 +16,4 @@ returns c =
     let both : ℕ × ℕ = (c.in_ok-first.first, c.in_ok-second.second) in
     c.then_some.ensures
     ∙ ap (λ b. then_some b both) c.is_empty.ensures
-    ∙ given-at-end two refl both (begin c.args.rest.now ▸ c.in_ok-first.ensures ▸ c.in_ok-second.ensures) refl (λ k ns. refl)
+    ∙ given_at_end two refl both (begin c.args.rest.now ▸ c.in_ok-first.ensures ▸ c.in_ok-second.ensures) refl (λ k ns. refl)

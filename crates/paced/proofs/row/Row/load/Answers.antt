@@ -1,6 +1,6 @@
 use Rattle.std.proofs.Common.{◌*◌, ◌≤◌, length, ap, ◌∙◌, mul-le-mul, arith}
 use Rattle.loads.specs.Share.{load_of}
-use Rattle.paced.proofs.Runs.{front_length, front-small, front-sum}
+use Rattle.paced.proofs.Runs.{front_length, front_small, front_sum}
 use Rattle.paced.proofs.row.Row.load.Goals as goal
 
 pub whole-requires : goal.whole-requires
@@ -9,14 +9,14 @@ whole-requires c =
     let short : r.count ≤ length r.costs = omega arith in
     record {
       few = omega (arith, front_length r.costs r.count short);
-      small = front-small r.costs r.count short c.requires.costs;
+      small = front_small r.costs r.count short c.requires.costs;
     }
 
 pub returns : goal.returns
 returns c =
     let r = c.args.self.now in
     let short : r.count ≤ length r.costs = omega arith in
-    c.load.ensures.value ∙ ap (λ units. load_of units (r.period * r.count)) (c.whole.ensures ∙ front-sum r.costs r.count short)
+    c.load.ensures.value ∙ ap (λ units. load_of units (r.period * r.count)) (c.whole.ensures ∙ front_sum r.costs r.count short)
 
 pub overflow_mul-self : goal.overflow_mul-self
 overflow_mul-self c =

@@ -2,7 +2,7 @@ use Rattle.std.proofs.Common.{◌+◌, ◌<◌, length, refl, ◌∙◌, arith, 
 use Rattle.std.proofs.lemmas.Bool.{cond-true, lt-ltb}
 use Rattle.std.proofs.lemmas.Result.{err_from_is_err_and}
 use Rattle.paced.specs.Pace.{Paces, Places, Costs, Fit}
-use Rattle.paced.specs.Together.{set-every}
+use Rattle.paced.specs.Together.{set_every}
 use Rattle.paced.proofs.table.Table.add.Goals as goal
 
 pub returns-in_err-row : goal.returns-in_err-row
@@ -18,7 +18,7 @@ invariant_of-self c =
     record {
       held = length-set s.rows n row ∙ s.held;
       few = omega arith;
-      paces = set-every Paces s.rows n row (n + 1) room (λ i l ne. s.paces i (omega arith)) fit.paces;
-      places = set-every Places s.rows n row (n + 1) room (λ i l ne. s.places i (omega arith)) fit.places;
-      costs = set-every Costs s.rows n row (n + 1) room (λ i l ne. s.costs i (omega arith)) fit.costs;
+      paces = set_every Paces s.rows n row (n + 1) room (λ i l ne. s.paces i (omega arith)) fit.paces;
+      places = set_every Places s.rows n row (n + 1) room (λ i l ne. s.places i (omega arith)) fit.places;
+      costs = set_every Costs s.rows n row (n + 1) room (λ i l ne. s.costs i (omega arith)) fit.costs;
     }

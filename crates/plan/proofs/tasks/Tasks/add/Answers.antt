@@ -3,8 +3,8 @@ use Rattle.refusal.specs.Table.{first_of}
 use Rattle.paced.specs.Makes.{fresh}
 use Rattle.paced.specs.Tables.{row_at}
 use Rattle.plan.specs.Limits.{limit_at}
-use Rattle.plan.proofs.Adding.{Right, right-limits, add-deadlines, add-blockings, add_holds, add-rest, had-room}
-use Rattle.plan.proofs.Bearing.{first-none}
+use Rattle.plan.proofs.Adding.{Right, right_limits, add_deadlines, add_blockings, add_holds, add_rest, had_room}
+use Rattle.plan.proofs.Bearing.{first_none}
 use Rattle.plan.proofs.tasks.Tasks.add.Goals as goal
 
 pub returns-in-Err : goal.returns-in-Err
@@ -12,7 +12,7 @@ returns-in-Err c =
     let a = c.fault.result in
     let b = c.limit_fault.result in
     let none : first_of a b ≡ None = sym c.first_fault-found.ensures ∙ c.in_default.is in
-    let clean : a ≡ None = (first-none a b none).0 in
+    let clean : a ≡ None = (first_none a b none).0 in
     let found = c.in-Err.ensures.0 in
     let z : ◌≡◌ {A = ℕ} 0 1 = cc (c.fault.ensures, clean, found) in
     absurd (omega arith)
@@ -27,19 +27,19 @@ invariant_of-self c =
     let a = c.fault.result in
     let b = c.limit_fault.result in
     let none : first_of a b ≡ None = sym c.first_fault-found.ensures ∙ c.in_default.is in
-    let right : Right s.limits n t j l = right-limits s.limits n t j l (sym c.limit_fault.ensures ∙ (first-none a b none).1) in
+    let right : Right s.limits n t j l = right_limits s.limits n t j l (sym c.limit_fault.ensures ∙ (first_none a b none).1) in
     let p = s.parts in
     let p' = c.add.new.self in
     let grown = c.in_default-add.ensures in
     let r = fresh t j c.args.costs.now in
-    let room : n < 16 = had-room n t j c.args.costs.now grown.0 in
-    let rows-room : n < length p.rows = omega (arith, p.held) in
-    let limits-room : n < length s.limits = omega (arith, s.held) in
+    let room : n < 16 = had_room n t j c.args.costs.now grown.0 in
+    let rows_room : n < length p.rows = omega (arith, p.held) in
+    let limits_room : n < length s.limits = omega (arith, s.held) in
     let at : c.count-place.result ≡ n = c.count-place.ensures in
     record {
       held = subst (λ k. length (set s.limits k l) ≡ 16) (sym at) (length-set s.limits n l ∙ s.held);
-      deadlines = subst (λ k. (i : ℕ) → i < p'.count → (limit_at (set s.limits k l) i).deadline + (row_at p'.rows i).jitter ≤ (row_at p'.rows i).period) (sym at) (add-deadlines p.rows p'.rows s.limits n p'.count r l grown.1 grown.2 rows-room limits-room s.deadlines right.deadline);
-      blockings = subst (λ k. (i : ℕ) → i < p'.count → (limit_at (set s.limits k l) i).blocking ≤ 1000000) (sym at) (add-blockings p.rows p'.rows s.limits n p'.count r l grown.1 grown.2 rows-room limits-room s.blockings right.blocking);
-      holds = subst (λ k. (i m : ℕ) → i < m → m < p'.count → (limit_at (set s.limits k l) m).hold ≤ (limit_at (set s.limits k l) i).blocking) (sym at) (add_holds p.rows p'.rows s.limits n p'.count r l grown.1 grown.2 rows-room limits-room s.holds right.hold);
-      at_rest = add-rest p.rows p'.rows s.limits n p'.count r l grown.1 grown.2 rows-room limits-room s.at_rest refl refl;
+      deadlines = subst (λ k. (i : ℕ) → i < p'.count → (limit_at (set s.limits k l) i).deadline + (row_at p'.rows i).jitter ≤ (row_at p'.rows i).period) (sym at) (add_deadlines p.rows p'.rows s.limits n p'.count r l grown.1 grown.2 rows_room limits_room s.deadlines right.deadline);
+      blockings = subst (λ k. (i : ℕ) → i < p'.count → (limit_at (set s.limits k l) i).blocking ≤ 1000000) (sym at) (add_blockings p.rows p'.rows s.limits n p'.count r l grown.1 grown.2 rows_room limits_room s.blockings right.blocking);
+      holds = subst (λ k. (i m : ℕ) → i < m → m < p'.count → (limit_at (set s.limits k l) m).hold ≤ (limit_at (set s.limits k l) i).blocking) (sym at) (add_holds p.rows p'.rows s.limits n p'.count r l grown.1 grown.2 rows_room limits_room s.holds right.hold);
+      at_rest = add_rest p.rows p'.rows s.limits n p'.count r l grown.1 grown.2 rows_room limits_room s.at_rest refl refl;
     }

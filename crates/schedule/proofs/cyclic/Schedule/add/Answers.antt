@@ -1,14 +1,14 @@
 use Rattle.std.proofs.Common.{◌-◌, ◌<◌, ◌≤◌, length, ◌∙◌, arith, length-set}
 use Rattle.schedule.specs.Phases.{offset_of}
 use Rattle.schedule.specs.declared.slot.Slot.{Slot}
-use Rattle.schedule.proofs.Slots.{sum-small, set-every, add-rising, add-below, add-sum}
+use Rattle.schedule.proofs.Slots.{sum_small, set_every, add_rising, add_below, add_sum}
 use Rattle.schedule.proofs.cyclic.Schedule.add.Goals as goal
 use Rattle.schedule.proofs.cyclic.Schedule.add.Lts.{else-self-gt0-via-then-self-gt0+else-offset-self-2, else-self-gt0-via-else-self-gt0}
 
 pub overflow_add-self : goal.overflow_add-self
 overflow_add-self c =
     let s = c.args.self.now in
-    omega (arith, s.all, sum-small s.slots s.lengths s.count, s.few)
+    omega (arith, s.all, sum_small s.slots s.lengths s.count, s.few)
 
 pub invariant_of-self : goal.invariant_of-self
 invariant_of-self c =
@@ -21,9 +21,9 @@ invariant_of-self c =
       held = length-set s.slots n new ∙ s.held;
       few = omega arith;
       turn = s.turn;
-      rising = add-rising s.slots n new room s.rising last;
-      below = add-below s.slots n new room s.cycle s.below c.if-offset-self.false;
-      offsets = set-every s.slots n new room (λ x. x.offset ≤ 1000000) c.if-offset-gt-LONGEST.false s.offsets;
-      lengths = set-every s.slots n new room (λ x. x.length ≤ 1000000) c.if-length-gt-LONGEST.false s.lengths;
-      all = add-sum s.slots n new room s.whole s.all;
+      rising = add_rising s.slots n new room s.rising last;
+      below = add_below s.slots n new room s.cycle s.below c.if-offset-self.false;
+      offsets = set_every s.slots n new room (λ x. x.offset ≤ 1000000) c.if-offset-gt-LONGEST.false s.offsets;
+      lengths = set_every s.slots n new room (λ x. x.length ≤ 1000000) c.if-length-gt-LONGEST.false s.lengths;
+      all = add_sum s.slots n new room s.whole s.all;
     }
