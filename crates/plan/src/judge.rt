@@ -17,7 +17,7 @@ pub(crate) struct Finding {
     pub(crate) bounds: [u32; 16],
 }
 
-fn find<S: Source>(bank: &S, tasks: &Tasks) -> Finding
+pub(crate) fn find<S: Source>(bank: &S, tasks: &Tasks) -> Finding
     ensures { Judged (S.Source.demanded bank.now) (S.Source.parts bank.now) tasks.now.limits tasks.now.parts.count tasks.now.parts.rows result.verdict result.bounds }
 {
     let mut bounds = [0; 16];

@@ -9,7 +9,7 @@ ghost use Rattle.plan.specs.Limits.{unlimited, limit_at, bearable, limit_fault, 
 
 use paced::row::in_range;
 use paced::table::Table;
-use refusal::{Fault, Refusal, first_fault};
+use refusal::{Fault, first_fault};
 use source::{LONGEST, Source};
 
 // What a task has besides its paced part, each from 0 to 1,000,000: how long a lower task may block it, how long a job may
@@ -87,38 +87,29 @@ impl Tasks {
         None
     }
 
-    // One task more, below the others, or a refusal with the number that it would have had: a 17th task or more than 8
-    // costs; a period, deadline or cost of 0, no cost or a number above 1,000,000; a jitter that is not below the period or
-    // a deadline above period less jitter; a hold above the blocking of an earlier task.
+    // One task more, below the others, or what is wrong with it: a 17th task or more than 8 costs; a period, deadline or
+    // cost of 0, no cost or a number above 1,000,000; a jitter that is not below the period or a deadline above period
+    // less jitter; a hold above the blocking of an earlier task.
     pub fn add(
         &mut self,
         period: u32,
         jitter: u32,
         limit: Limit,
         costs: &[u32],
-    ) -> Result<(), Refusal>
-        ensures { MatchResult result (λ _. (task_fault self.old.limits self.old.parts.count period jitter limit.blocking limit.deadline limit.hold costs.now ≡ None) × (self.new.parts.rows ≡ slice_set self.old.parts.rows self.old.parts.count (fresh period jitter costs.now)) × (self.new.parts.count ≡ self.old.parts.count + 1) × (self.new.limits ≡ slice_set self.old.limits self.old.parts.count limit)) (λ e. (task_fault self.old.limits self.old.parts.count period jitter limit.blocking limit.deadline limit.hold costs.now ≡ Some e.fault) × (e.line ≡ 0) × (e.task ≡ self.old.parts.count + 1) × (self.new ≡ self.old)) }
+    ) -> Result<(), Fault>
+        ensures { MatchResult result (λ _. (task_fault self.old.limits self.old.parts.count period jitter limit.blocking limit.deadline limit.hold costs.now ≡ None) × (self.new.parts.rows ≡ slice_set self.old.parts.rows self.old.parts.count (fresh period jitter costs.now)) × (self.new.parts.count ≡ self.old.parts.count + 1) × (self.new.limits ≡ slice_set self.old.limits self.old.parts.count limit)) (λ fault. (task_fault self.old.limits self.old.parts.count period jitter limit.blocking limit.deadline limit.hold costs.now ≡ Some fault) × (self.new ≡ self.old)) }
     {
         let found = first_fault(
             self.parts.fault(period, jitter, costs),
             self.limit_fault(period, jitter, limit),
         );
-        let task = self.parts.count() + 1;
         if let Some(fault) = found {
-            return Err(Refusal {
-                fault,
-                line: 0,
-                task,
-            });
+            return Err(fault);
         }
         let place = self.parts.count() as usize;
         let mut parts = self.parts;
         if let Err(fault) = parts.add(period, jitter, costs) {
-            return Err(Refusal {
-                fault,
-                line: 0,
-                task,
-            });
+            return Err(fault);
         }
         let mut limits = self.limits;
         limits[place] = limit;

@@ -74,7 +74,15 @@ impl Draft {
             deadline,
             hold,
         };
-        self.tasks.add(period, jitter, limit, costs.list())
+        let task = self.tasks.count() + 1;
+        if let Err(fault) = self.tasks.add(period, jitter, limit, costs.list()) {
+            return Err(Refusal {
+                fault,
+                line: 0,
+                task,
+            });
+        }
+        Ok(())
     }
 
     // What a later row makes of the draft: pairs come before interrupts, and these before tasks.
