@@ -1,2 +1,3 @@
 pub mod Worked
+pub mod Plans
 pub mod Premises

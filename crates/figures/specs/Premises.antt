@@ -1,4 +1,4 @@
--- What the promises begin with can be: for each that says "if" or "for every", a case in which that holds. The other cases stand
+-- What the promises begin with can hold: for each that says "if" or "for every", a case in which that holds. The other cases stand
 -- among the worked figures, and in the example of crate guarantee.
 use Rattle.std.specs.Prelude.{◌≡◌, [], ◌∷◌, codes}
 use Rattle.loads.specs.Share.{RoundedUp}
@@ -10,7 +10,7 @@ use Rattle.words.specs.Split.{Cut}
 use Rattle.lines.specs.Rows.{at, written, Sayable}
 use Rattle.calls.specs.declared.Call.TheVariants.{Offer}
 use Rattle.transcript.specs.Calls as calls
-use Rattle.figures.specs.Worked.{bank, task_limits}
+use Rattle.figures.specs.Plans.{bank, task_limits}
 
 pub record Premises : Type 0 where
   -- deadlines raised, as in the law that an accepted plan stays accepted

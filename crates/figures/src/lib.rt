@@ -4,12 +4,13 @@
 ghost use Rattle.std.specs.Prelude.{◌≡◌};
 ghost use Rattle.figures.specs.Worked.{Figures};
 
+pub mod plans;
 pub mod premises;
 
 // How many groups of figures there are; that each of them holds is what this function promises.
 pub fn worked_figures() -> u32
-    ensures groups { result ≡ 9 }
+    ensures groups { result ≡ 5 }
     ensures figures { Figures }
 {
-    9
+    5
 }

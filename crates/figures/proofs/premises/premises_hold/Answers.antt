@@ -2,7 +2,7 @@ use Rattle.std.proofs.Common.{ℕ, zero, suc, ◌+◌, ◌*◌, ◌<◌, ◌≤�
 use Rattle.std.specs.Fmt.{digits}
 use Rattle.arrivals.specs.Times.{Explains, Explained}
 use Rattle.plan.specs.Judged.{Raised}
-use Rattle.figures.specs.Worked.{task_limits}
+use Rattle.figures.specs.Plans.{task_limits}
 use Rattle.figures.proofs.premises.premises_hold.Goals as goal
 
 raised : Raised 2 (task_limits 15) (task_limits 20)
