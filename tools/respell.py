@@ -3,10 +3,11 @@
 
 usage: tools/respell.py [FOLDER]      FOLDER has crates/; without it, the repository that the script stands in
 
-A word is one that an .antt file of the repository declares: a definition, a lemma, a field, a local name. `front-length-at`
-and `limitAt` become `front_length_at` and `limit_at`. Left alone are the names that Rattle makes (goals, and what a goal
-knows), the words of the library, types and modules, the functions of src/, and every text and comment of a .rt file. Words
-that would fall together are named, and nothing is written. A second run changes nothing.
+A word is one that an .antt file of the repository declares: a definition, a lemma, a field, a name in a `let`, or what a
+`use` line calls it. `front-length-at` and `limitAt` become `front_length_at` and `limit_at`, in comments of .antt files too.
+Left alone are the names that Rattle makes (goals, and what a goal knows), the words of the library, types and modules, names
+that stand only on the left of an equation, the functions of src/, every text, and the comments of .rt files. Words of one
+crate's specs/ and proofs/ that would fall together are named, and nothing is written. A second run changes nothing.
 """
 
 import pathlib
@@ -16,18 +17,19 @@ import sys
 NAME = r"[^\W\d][\w'-]*"
 DECLARED = re.compile(rf"(?:^|[({{\[,;]|\blet\s|\bwhere\s|\bin\s)\s*(?:(?:abbrev|pub|private)\s+)*((?:{NAME}\s+)*{NAME})\s+:\s+(\S+)")
 TOKEN = re.compile(r"(?<![\w'-])[^\W\d][\w'-]*")
-ALONE = re.compile(r"(?<![\w'.-])[^\W\d][\w'-]*(?!\.)(?![\w'-])")
+# A word that is no part of a path.
+ALONE = re.compile(r"(?<![\w'.-])[^\W\d][\w'-]*(?![\w'-])(?!\.[^\W\d][\w'-]*\.)")
 ALIAS = re.compile(rf"\bas ({NAME})")
-STRING = re.compile(r'("(?:[^"\\]|\\.)*"|//.*)')
+TEXT = {".rt": re.compile(r'("(?:[^"\\]|\\.)*"|//.*)'), ".antt": re.compile(r'("(?:[^"\\]|\\.)*")')}
 LIBRARY = re.compile(r"^\s*(?:ghost )?use Rattle\.std\.[^{]*\.\{([^}]*)\}")
-# Two lemmas of one crate that would take the name of the definition that they are about.
+# Lemmas of one crate that would take the name of the definition that they are about.
 OTHERWISE = {"left-after": "left_of_after", "left-ticked": "left_of_ticked", "task-cell": "task_cell_of"}
 WORDS = {"abbrev", "pub", "private", "let", "where", "in", "record", "module", "use", "mod"}
 
 
 def code(line):
-    """The part of a line of an .antt file before its comment."""
-    return line.split("--", 1)[0] if line.lstrip().startswith("--") or " -- " in line else line
+    """What stands on a line of an .antt file before a comment."""
+    return "" if line.lstrip().startswith("--") else line.split(" -- ")[0]
 
 
 def folded(word):
@@ -48,8 +50,8 @@ def source(root):
 
 
 def turn(line, turned, suffix):
-    """A line with its words turned; in a .rt file not those of texts and comments."""
-    parts = [line] if suffix == ".antt" else STRING.split(line)
+    """A line with its words turned, but for its texts."""
+    parts = TEXT[suffix].split(line)
     for i in range(0, len(parts), 2):
         parts[i] = TOKEN.sub(lambda m: turned.get(m[0], m[0]), parts[i])
     return "".join(parts)
