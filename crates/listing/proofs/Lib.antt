@@ -1,3 +1,2 @@
 mod Placing
 pub mod Sizes
-mod Spelling
