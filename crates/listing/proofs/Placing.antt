@@ -1,20 +1,17 @@
 -- Texts that are written into a buffer one after another.
-use Rattle.std.proofs.Common.{◌≡◌, ℕ, zero, suc, ◌+◌, ◌*◌, ◌<◌, ◌≤◌, List, [], ◌∷◌, ◌++◌, length, get_or, take, drop, sym, ap, ◌∙◌, append_assoc, mul-add, arith, length-append}
-use borrow.Rule.Slice.PartMut.{put_mid}
+use Rattle.std.proofs.Common.{◌≡◌, ℕ, zero, suc, ◌+◌, ◌*◌, ◌<◌, ◌≤◌, List, [], ◌∷◌, ◌++◌, length, get_or, take, drop, sym, subst, ap, ◌∙◌, append_assoc, mul-add, arith, length-append, length-drop}
+use Rattle.std.proofs.Math.Nat.{mul-le-mul_left}
 use Rattle.std.specs.List.{flat_map}
-use Rattle.std.proofs.lemmas.List.{drop-drop, drop_at, take_at, take-append-drop, take_more, flat_map_more, length-take-le}
-use Rattle.listing.specs.Put.{put}
+use Rattle.std.proofs.lemmas.List.{drop-drop, drop_at, take_at, take_more, flat_map_more, length-take-le}
+use Rattle.listing.specs.declared.pieces.Text.{Text}
+use Rattle.listing.specs.Put.{put, HasRoom, Puts}
 
--- what a copy into a part of the buffer leaves
-pub put_part : (xs ys zs : List ℕ) (a k : ℕ) → ys ≡ zs → k ≡ length zs → put_mid a k xs ys ≡ put xs a zs
-put_part xs ys zs a k same size = (λ i. take a xs ++ (same i ++ drop (size i) (drop a xs))) ∙ ap (λ t. take a xs ++ (zs ++ t)) (drop-drop (length zs) a xs)
-
--- nothing written
-pub put_none : (b : List ℕ) (at : ℕ) → put b at [] ≡ b
-put_none b at = let same : at + 0 ≡ at = omega arith in ap (λ k. take at b ++ drop k b) same ∙ take-append-drop at b
+-- what is written has the length of what was there
+length_put : (b : List ℕ) (at : ℕ) (x : List ℕ) → at + length x ≤ length b → length (put b at x) ≡ length b
+length_put b at x room = omega (arith, length-append (take at b) (x ++ drop (at + length x) b), length-append x (drop (at + length x) b), length-take-le at b (omega arith), length-drop (at + length x) b)
 
 -- two texts, one after the other, are one
-pub put_more : (b : List ℕ) (at : ℕ) (x y : List ℕ) → at + length x ≤ length b → put (put b at x) (at + length x) y ≡ put b at (x ++ y)
+put_more : (b : List ℕ) (at : ℕ) (x y : List ℕ) → at + length x ≤ length b → put (put b at x) (at + length x) y ≡ put b at (x ++ y)
 put_more b at x y room =
     let end = at + length x in
     let front : length (take at b ++ x) ≡ end = length-append (take at b) x ∙ ap (λ k. k + length x) (length-take-le at b (omega arith)) in
@@ -34,28 +31,48 @@ joined_front f ps zero = omega arith
 joined_front f [] (suc n) = omega arith
 joined_front f (p ∷ ps) (suc n) = omega (arith, joined_front f ps n, length-append (f p) (flat_map f (take n ps)), length-append (f p) (flat_map f ps))
 
--- there is room for the next
-pub joined_room : {X : Type 0} (f : X → List ℕ) (ps : List X) (i : ℕ) (d : X) → i < length ps → length (flat_map f (take i ps)) + length (f (get_or ps i d)) ≤ length (flat_map f ps)
-joined_room f ps i d h = omega (arith, length-append (flat_map f (take i ps)) (f (get_or ps i d)), ap length (joined_push f ps i d h), joined_front f ps (i + 1))
+-- what is written so far, and one text more
+module _ (a : Text) where
+  module _ (b : Text) (x : List ℕ) (room : HasRoom a x) (first : Puts a b x) where
+    pub same_length : length b.buffer.now ≡ length a.buffer.now
+    same_length = ap length first.bytes ∙ length_put a.buffer.now a.end x room.room
 
--- there is room for the next of several texts, behind those that are written
-pub next_room : {X : Type 0} (f : X → List ℕ) (ps : List X) (i : ℕ) (d : X) (at end size : ℕ) → i < length ps → at + length (flat_map f ps) ≤ size → end ≡ at + length (flat_map f (take i ps)) → end + length (f (get_or ps i d)) ≤ size
-next_room f ps i d at end size h room e = omega (arith, joined_room f ps i d h)
+    pub puts_next : (y : List ℕ) (c : Text) → Puts b c y → Puts a c (x ++ y)
+    puts_next y c next = record {
+      same = next.same ∙ first.same;
+      bytes = next.bytes ∙ (λ k. put (first.bytes k) (first.ends k) y) ∙ put_more a.buffer.now a.end x y room.room;
+      ends = omega (arith, first.ends, next.ends, length-append x y);
+    }
 
--- a text y is written behind x, and both are z: what the buffer holds, and where z ends
-pub put_next : (b b' b'' x y z : List ℕ) (at end : ℕ) → at + length x ≤ length b → b' ≡ put b at x → end ≡ at + length x → b'' ≡ put b' end y → x ++ y ≡ z → b'' ≡ put b at z
-put_next b b' b'' x y z at end room was e after both = after ∙ (λ k. put (was k) (e k) y) ∙ put_more b at x y room ∙ ap (put b at) both
+    pub room_next : (y : List ℕ) → HasRoom a (x ++ y) → HasRoom b y
+    room_next y whole = record { room = omega (arith, whole.room, first.ends, length-append x y, same_length) }
 
-pub end_next : (x y z : List ℕ) (at end end' : ℕ) → end ≡ at + length x → end' ≡ end + length y → x ++ y ≡ z → end' ≡ at + length z
-end_next x y z at end end' e e' both = omega (arith, length-append x y, ap length both)
+-- x is written, and what comes next
+module _ (a b : Text) (x : List ℕ) (so_far : Puts a b x) where
+  -- x and y make z, the front of a whole text that has room
+  module _ (y z whole : List ℕ) (both : x ++ y ≡ z) (small : length z ≤ length whole) (room : HasRoom a whole) where
+    front : HasRoom a x
+    front = record { room = omega (arith, room.room, ap length both, length-append x y) }
 
--- a text of at most k bytes has room where k bytes have, and ends within them
-pub room_for : (at m k size : ℕ) → at + k ≤ size → m ≤ k → at + m ≤ size
-room_for at m k size room small = omega arith
+    pub room_more : HasRoom b y
+    room_more = room_next a b x front so_far y (subst (λ t. HasRoom a t) (sym both) (record { room = omega (arith, room.room) }))
 
-pub ends_within : (at m k end : ℕ) → end ≡ at + m → m ≤ k → end ≤ at + k
-ends_within at m k end e small = omega arith
+    pub puts_more : (c : Text) → Puts b c y → Puts a c z
+    puts_more c next = subst (λ t. Puts a c t) both (puts_next a b x front so_far y c next)
 
--- the next of texts of at most k bytes ends within its share
-pub end_within : (end end' m at k n : ℕ) → end' ≡ end + m → m ≤ k → end ≤ at + k * n → end' ≤ at + k * (n + 1)
-end_within end end' m at k n e small was = omega (arith, mul-add k n 1)
+  -- x is n of several texts of at most k bytes each
+  module _ (k n most : ℕ) (few : n < most) (room : a.end + k * most ≤ length a.buffer.now) (within : b.end ≤ a.end + k * n) where
+    share : k * n + k ≤ k * most
+    share = omega (arith, mul-le-mul_left k few)
+
+    front_within : HasRoom a x
+    front_within = record { room = omega (arith, so_far.ends, share) }
+
+    pub room_within : b.end + k ≤ length b.buffer.now
+    room_within = omega (arith, share, same_length a b x front_within so_far)
+
+    pub puts_within : (c : Text) (y z : List ℕ) → x ++ y ≡ z → Puts b c y → c.end ≤ b.end + k → Puts a c z × (c.end ≤ a.end + k * (n + 1))
+    puts_within c y z both next small = (
+      subst (λ t. Puts a c t) both (puts_next a b x front_within so_far y c next),
+      omega (arith, mul-add k n 1),
+    )

@@ -1,5 +1,5 @@
 -- How long each text of a listing can be.
-use Rattle.std.proofs.Common.{◌≡◌, ℕ, zero, suc, ◌+◌, ◌*◌, ◌^◌, ◌<◌, ◌≤◌, List, ◌++◌, length, get_or, codes, decimal, sym, ap, add-one, arith, lit≤, length-append}
+use Rattle.std.proofs.Common.{◌≡◌, ℕ, ◌+◌, ◌^◌, ◌<◌, ◌≤◌, List, ◌++◌, length, decimal, sym, ap, ◌∙◌, add-one, arith, lit≤, length-append}
 use Rattle.std.proofs.lemmas.Fmt.{length-decimal-le}
 use Rattle.refusal.specs.Table.{row}
 use Rattle.refusal.specs.declared.Fault.{Fault}
@@ -8,7 +8,7 @@ use Rattle.refusal.specs.declared.Layer.{Layer}
 use Rattle.refusal.specs.declared.Layer.TheVariants.{Words, Lines, Plan, Judge, Run, List as Listed}
 use Rattle.refusal.specs.declared.Refusal.{Refusal}
 use Rattle.listing.specs.declared.marks.TaskMark.{TaskMark}
-use Rattle.listing.specs.Texts.{line_end, accepted_line, part_line, task_line, unmarked, part_lines, task_lines, layer_name, refusal_line, accepted_text, refusal_text}
+use Rattle.listing.specs.Texts.{accepted_line, part_line, task_line, numbered, layer_name, refusal_line, refusal_text}
 
 ten : (n : ℕ) → n < 2 ^ 32 → length (decimal n) ≤ 10
 ten n h = length-decimal-le 10 n (omega arith) (omega arith) (omega arith)
@@ -59,29 +59,6 @@ refusal_line_short n layer line h l = simp length-append (omega (arith, ten n h,
 pub refusal_short : (refusal : Refusal) → refusal.line < 2 ^ 32 → length (refusal_text refusal) ≤ 36
 refusal_short refusal l = refusal_line_short (row refusal.fault).number (row refusal.fault).layer refusal.line (omega (arith, number_small refusal.fault)) l
 
--- one line more
-pub part_lines_more : (n : ℕ) (loads : List ℕ) → part_lines n loads ++ part_line (n + 1) (get_or loads n 0) ≡ part_lines (n + 1) loads
-part_lines_more n loads = ap (λ k. part_lines k loads) (sym (add-one n))
-
-pub task_lines_more : (n : ℕ) (marks : List TaskMark) → task_lines n marks ++ task_line (n + 1) (get_or marks n unmarked) ≡ task_lines (n + 1) marks
-task_lines_more n marks = ap (λ k. task_lines k marks) (sym (add-one n))
-
-part_lines_short : (n : ℕ) (loads : List ℕ) → n ≤ 9 → ((i : ℕ) → get_or loads i 0 < 2 ^ 64) → length (part_lines n loads) ≤ 42 * n
-part_lines_short zero loads h f = omega arith
-part_lines_short (suc n) loads h f = omega (arith, length-append (part_lines n loads) (part_line (n + 1) (get_or loads n 0)), part_lines_short n loads (omega arith) f, part_short (n + 1) (get_or loads n 0) (omega arith) (f n))
-
--- every number of a task's line is one that its type has
-abbrev pub Fit : TaskMark → Type 0
-Fit mark = (mark.bound < 2 ^ 32) × (mark.deadline < 2 ^ 32) × (mark.load < 2 ^ 64)
-
-task_lines_short : (n : ℕ) (marks : List TaskMark) → n ≤ 16 → ((i : ℕ) → Fit (get_or marks i unmarked)) → length (task_lines n marks) ≤ 79 * n
-task_lines_short zero marks h f = omega arith
-task_lines_short (suc n) marks h f = omega (arith, length-append (task_lines n marks) (task_line (n + 1) (get_or marks n unmarked)), task_lines_short n marks (omega arith) f, task_short (n + 1) (get_or marks n unmarked) (omega arith) (f n).0 (f n).1 (f n).2)
-
--- every listing fits 2,048 bytes
-pub accepted_fits : (parts : ℕ) (loads : List ℕ) (tasks : ℕ) (marks : List TaskMark) → parts ≤ 9 → tasks ≤ 16 → ((i : ℕ) → get_or loads i 0 < 2 ^ 64) → ((i : ℕ) → Fit (get_or marks i unmarked)) → length (accepted_text parts loads tasks marks) ≤ 2048
-accepted_fits parts loads tasks marks p t l m =
-    simp length-append (omega (arith, length-append (codes "accepted ") (decimal tasks ++ line_end), ten tasks (omega arith), part_lines_short parts loads p l, task_lines_short tasks marks t m))
-
-pub refusal_fits : (refusal : Refusal) → refusal.line < 2 ^ 32 → length (refusal_text refusal) ≤ 2048
-refusal_fits refusal l = omega (arith, refusal_short refusal l)
+-- one line more, of the item that stands at its place
+pub lines_more : {X : Type 0} (line : ℕ → X → List ℕ) (item : ℕ → X) (n : ℕ) (x : X) → x ≡ item n → numbered line item n ++ line (n + 1) x ≡ numbered line item (n + 1)
+lines_more line item n x e = ap (λ y. numbered line item n ++ line (n + 1) y) e ∙ ap (numbered line item) (sym (add-one n))

@@ -1,77 +1,13 @@
-// The lines of a listing. Each function writes from a place of the buffer on, and says where the text ends.
+// The lines of a listing.
 ghost use Rattle.std.specs.Prelude.{◌≡◌, ◌+◌, ◌*◌, ◌≤◌, length};
-ghost use Rattle.listing.specs.Put.{put};
+ghost use Rattle.listing.specs.Put.{Puts};
 ghost use Rattle.listing.specs.Texts.{accepted_line, part_line, task_line, part_lines, task_lines, layer_name, refusal_text};
 
 use crate::marks::{Marks, TaskMark};
-use crate::pieces::{Piece, put_all};
+use crate::pieces::{Piece, Text};
 use refusal::{Layer, Refusal};
 
-// That a plan is accepted, and how many tasks it has.
-pub(crate) fn put_accepted(buffer: &mut [u8], at: usize, tasks: u32) -> usize
-    requires { at + length (accepted_line tasks) ≤ length buffer.old }
-    ensures text { buffer.new ≡ put buffer.old at (accepted_line tasks) }
-    ensures end { result ≡ at + length (accepted_line tasks) }
-{
-    let count = u64::from(tasks);
-    put_all(
-        buffer,
-        at,
-        &[
-            Piece::Fixed(b"accepted "),
-            Piece::Number(count),
-            Piece::Fixed(b"\n"),
-        ],
-    )
-}
-
-// The line of a part.
-fn put_part(buffer: &mut [u8], at: usize, number: u32, load: u64) -> usize
-    requires { at + length (part_line number load) ≤ length buffer.old }
-    ensures text { buffer.new ≡ put buffer.old at (part_line number load) }
-    ensures end { result ≡ at + length (part_line number load) }
-{
-    let number = u64::from(number);
-    put_all(
-        buffer,
-        at,
-        &[
-            Piece::Fixed(b"part "),
-            Piece::Number(number),
-            Piece::Fixed(b" load "),
-            Piece::Number(load),
-            Piece::Fixed(b"\n"),
-        ],
-    )
-}
-
-// The line of a task.
-fn put_task(buffer: &mut [u8], at: usize, number: u32, mark: TaskMark) -> usize
-    requires { at + length (task_line number mark) ≤ length buffer.old }
-    ensures text { buffer.new ≡ put buffer.old at (task_line number mark) }
-    ensures end { result ≡ at + length (task_line number mark) }
-{
-    let number = u64::from(number);
-    let bound = u64::from(mark.bound);
-    let deadline = u64::from(mark.deadline);
-    put_all(
-        buffer,
-        at,
-        &[
-            Piece::Fixed(b"task "),
-            Piece::Number(number),
-            Piece::Fixed(b" bound "),
-            Piece::Number(bound),
-            Piece::Fixed(b" deadline "),
-            Piece::Number(deadline),
-            Piece::Fixed(b" load "),
-            Piece::Number(mark.load),
-            Piece::Fixed(b"\n"),
-        ],
-    )
-}
-
-// The name of a layer.
+// The name of a layer. No `Display` of it: the lines take the bytes of a fixed text, and no formatter.
 pub fn layer_name(layer: Layer) -> &'static str
     ensures { result.now ≡ layer_name layer }
 {
@@ -85,54 +21,97 @@ pub fn layer_name(layer: Layer) -> &'static str
     }
 }
 
-// The line of a refusal.
-pub(crate) fn put_refusal(buffer: &mut [u8], at: usize, refusal: Refusal) -> usize
-    requires { at + length (refusal_text refusal) ≤ length buffer.old }
-    ensures text { buffer.new ≡ put buffer.old at (refusal_text refusal) }
-    ensures end { result ≡ at + length (refusal_text refusal) }
-{
-    let number = u64::from(refusal.number());
-    let layer = layer_name(refusal.layer());
-    let line = u64::from(refusal.line);
-    put_all(
-        buffer,
-        at,
-        &[
-            Piece::Fixed(b"refused "),
-            Piece::Number(number),
-            Piece::Fixed(b" "),
-            Piece::Fixed(layer.as_bytes()),
-            Piece::Fixed(b" "),
-            Piece::Number(line),
+impl<'a> Text<'a> {
+    // That a plan is accepted, and how many tasks it has.
+    #[tactic(auto, using(crate::proofs::Sizes::accepted_short))]
+    pub(crate) fn put_accepted(&mut self, tasks: u32)
+        requires { self.old.end + 20 ≤ length self.old.buffer.now }
+        ensures text { Puts self.old self.new (accepted_line tasks) }
+        ensures short { self.new.end ≤ self.old.end + 20 }
+    {
+        self.put_all(&[
+            Piece::Fixed(b"accepted "),
+            Piece::Number(u64::from(tasks)),
             Piece::Fixed(b"\n"),
-        ],
-    )
-}
-
-// The lines of all parts, in their order.
-pub(crate) fn put_parts(buffer: &mut [u8], at: usize, marks: &Marks) -> usize
-    requires { at + 42 * 9 ≤ length buffer.old }
-    ensures text { buffer.new ≡ put buffer.old at (part_lines marks.now.part_count marks.now.parts) }
-    ensures end { result ≡ at + length (part_lines marks.now.part_count marks.now.parts) }
-    ensures short { result ≤ at + 42 * 9 }
-{
-    let mut end = at;
-    for place in 0..marks.part_count {
-        end = put_part(buffer, end, place + 1, marks.parts[place as usize]);
+        ]);
     }
-    end
-}
 
-// The lines of all tasks, in their order.
-pub(crate) fn put_tasks(buffer: &mut [u8], at: usize, marks: &Marks) -> usize
-    requires { at + 79 * 16 ≤ length buffer.old }
-    ensures text { buffer.new ≡ put buffer.old at (task_lines marks.now.task_count marks.now.tasks) }
-    ensures end { result ≡ at + length (task_lines marks.now.task_count marks.now.tasks) }
-    ensures short { result ≤ at + 79 * 16 }
-{
-    let mut end = at;
-    for place in 0..marks.task_count {
-        end = put_task(buffer, end, place + 1, marks.task(place));
+    // The line of a part.
+    #[tactic(auto, using(crate::proofs::Sizes::part_short))]
+    fn put_part(&mut self, number: u32, load: u64)
+        requires { self.old.end + 42 ≤ length self.old.buffer.now }
+        ensures text { Puts self.old self.new (part_line number load) }
+        ensures short { self.new.end ≤ self.old.end + 42 }
+    {
+        self.put_all(&[
+            Piece::Fixed(b"part "),
+            Piece::Number(u64::from(number)),
+            Piece::Fixed(b" load "),
+            Piece::Number(load),
+            Piece::Fixed(b"\n"),
+        ]);
     }
-    end
+
+    // The line of a task.
+    #[tactic(auto, using(crate::proofs::Sizes::task_short))]
+    fn put_task(&mut self, number: u32, mark: TaskMark)
+        requires { self.old.end + 79 ≤ length self.old.buffer.now }
+        ensures text { Puts self.old self.new (task_line number mark) }
+        ensures short { self.new.end ≤ self.old.end + 79 }
+    {
+        self.put_all(&[
+            Piece::Fixed(b"task "),
+            Piece::Number(u64::from(number)),
+            Piece::Fixed(b" bound "),
+            Piece::Number(u64::from(mark.bound)),
+            Piece::Fixed(b" deadline "),
+            Piece::Number(u64::from(mark.deadline)),
+            Piece::Fixed(b" load "),
+            Piece::Number(mark.load),
+            Piece::Fixed(b"\n"),
+        ]);
+    }
+
+    // The line of a refusal.
+    #[tactic(auto, using(crate::proofs::Sizes::refusal_short))]
+    pub(crate) fn put_refusal(&mut self, refusal: Refusal)
+        requires { self.old.end + 36 ≤ length self.old.buffer.now }
+        ensures text { Puts self.old self.new (refusal_text refusal) }
+        ensures short { self.new.end ≤ self.old.end + 36 }
+    {
+        self.put_all(&[
+            Piece::Fixed(b"refused "),
+            Piece::Number(u64::from(refusal.number())),
+            Piece::Fixed(b" "),
+            Piece::Fixed(layer_name(refusal.layer()).as_bytes()),
+            Piece::Fixed(b" "),
+            Piece::Number(u64::from(refusal.line)),
+            Piece::Fixed(b"\n"),
+        ]);
+    }
+
+    // The lines of all parts, in their order. With those of tasks one generic function would need a trait of its own for the
+    // line of an item and its longest text, which is more than these two loops.
+    pub(crate) fn put_parts(&mut self, marks: &Marks)
+        requires { self.old.end + 42 * 9 ≤ length self.old.buffer.now }
+        ensures text { Puts self.old self.new (part_lines marks.now.part_count marks.now.parts) }
+        ensures short { self.new.end ≤ self.old.end + 42 * 9 }
+    {
+        let loads = marks.parts();
+        for (place, load) in loads.iter().enumerate() {
+            self.put_part(place as u32 + 1, *load);
+        }
+    }
+
+    // The lines of all tasks, in their order.
+    pub(crate) fn put_tasks(&mut self, marks: &Marks)
+        requires { self.old.end + 79 * 16 ≤ length self.old.buffer.now }
+        ensures text { Puts self.old self.new (task_lines marks.now.task_count marks.now.tasks) }
+        ensures short { self.new.end ≤ self.old.end + 79 * 16 }
+    {
+        let tasks = marks.tasks();
+        for (place, mark) in tasks.iter().enumerate() {
+            self.put_task(place as u32 + 1, *mark);
+        }
+    }
 }

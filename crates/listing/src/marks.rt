@@ -1,13 +1,24 @@
 // What a listing tells.
-ghost use Rattle.std.specs.Prelude.{◌≡◌, ◌+◌, ◌<◌, ◌≤◌, true, false, length, replicate, nat_lt, slice_index_or, slice_set};
+ghost use Rattle.std.specs.Prelude.{◌≡◌, ◌+◌, ◌^◌, ◌<◌, ◌≤◌, true, false, length, replicate, take, nat_lt, slice_index_or, slice_set};
 ghost use Rattle.listing.specs.Texts.{unmarked};
 
 use refusal::Refusal;
 
-// How many parts and how many tasks a listing has room for.
-const PARTS: u32 = 9;
-
-const TASKS: u32 = 16;
+// One item more behind the first ones of a table, or false if it is full.
+fn push<T: Copy>(table: &mut [T], count: &mut u32, item: T) -> bool
+    requires { length table.old < 2 ^ 32 }
+    ensures answer { result ≡ nat_lt count.old (length table.old) }
+    ensures added { result ≡ true → (table.new ≡ slice_set table.old count.old item) × (count.new ≡ count.old + 1) }
+    ensures refused { result ≡ false → (table.new ≡ table.old) × (count.new ≡ count.old) }
+{
+    let place = *count as usize;
+    if place >= table.len() {
+        return false;
+    }
+    table[place] = item;
+    *count += 1;
+    true
+}
 
 // What the listing tells of a task.
 #[derive(Clone, Copy)]
@@ -18,6 +29,7 @@ pub struct TaskMark {
 }
 
 // The loads of up to 9 parts, and what is told of up to 16 tasks, in the order in which they were added.
+// Tables with a count beside them, and no `Vec`: the library allocates nothing here, and a listing is copied.
 #[derive(Clone, Copy)]
 pub struct Marks {
     pub(crate) parts: [u64; 9],
@@ -51,12 +63,18 @@ impl Marks {
         }
     }
 
-    // What is told of the task at a place.
-    pub(crate) fn task(&self, place: u32) -> TaskMark
-        requires { place < self.now.task_count }
-        ensures { result ≡ slice_index_or self.now.tasks place unmarked }
+    // The loads of the parts.
+    pub(crate) fn parts(&self) -> &[u64]
+        ensures { result.now ≡ take self.now.part_count self.now.parts }
     {
-        self.tasks[place as usize]
+        &self.parts[..self.part_count as usize]
+    }
+
+    // What is told of the tasks.
+    pub(crate) fn tasks(&self) -> &[TaskMark]
+        ensures { result.now ≡ take self.now.task_count self.now.tasks }
+    {
+        &self.tasks[..self.task_count as usize]
     }
 
     // One part more behind the others, or false if there is no room.
@@ -66,14 +84,7 @@ impl Marks {
         ensures tasks { (self.new.tasks ≡ self.old.tasks) × (self.new.task_count ≡ self.old.task_count) }
         ensures refused { result ≡ false → self.new ≡ self.old }
     {
-        if self.part_count >= PARTS {
-            return false;
-        }
-        let mut parts = self.parts;
-        parts[self.part_count as usize] = load;
-        self.parts = parts;
-        self.part_count += 1;
-        true
+        push(&mut self.parts, &mut self.part_count, load)
     }
 
     // One task more behind the others, or false if there is no room.
@@ -83,14 +94,7 @@ impl Marks {
         ensures parts { (self.new.parts ≡ self.old.parts) × (self.new.part_count ≡ self.old.part_count) }
         ensures refused { result ≡ false → self.new ≡ self.old }
     {
-        if self.task_count >= TASKS {
-            return false;
-        }
-        let mut tasks = self.tasks;
-        tasks[self.task_count as usize] = mark;
-        self.tasks = tasks;
-        self.task_count += 1;
-        true
+        push(&mut self.tasks, &mut self.task_count, mark)
     }
 }
 

@@ -1,6 +1,6 @@
-// Text in pieces, written into a buffer from a place on.
-ghost use Rattle.std.specs.Prelude.{◌≡◌, ◌+◌, ◌≤◌, length};
-ghost use Rattle.listing.specs.Put.{put, piece_text, pieces_text};
+// Text in pieces, written into a buffer of the caller's.
+ghost use Rattle.std.specs.Prelude.{◌≡◌};
+ghost use Rattle.listing.specs.Put.{piece_text, pieces_text, HasRoom, Puts};
 
 use itoa::Buffer;
 
@@ -11,37 +11,50 @@ pub(crate) enum Piece<'a> {
     Number(u64),
 }
 
-// Writes bytes, and says where they end.
-fn put_bytes(buffer: &mut [u8], at: usize, bytes: &[u8]) -> usize
-    requires { at + length bytes.now ≤ length buffer.old }
-    ensures text { buffer.new ≡ put buffer.old at bytes.now }
-    ensures end { result ≡ at + length bytes.now }
-{
-    let end = at + bytes.len();
-    buffer[at..end].copy_from_slice(bytes);
-    end
+// A text that is being written: the buffer that it stands in, and where it ends there.
+#[derive(Drop)]
+pub(crate) struct Text<'a> {
+    pub(crate) buffer: &'a mut [u8],
+    pub(crate) end: usize,
 }
 
-fn put_piece(buffer: &mut [u8], at: usize, piece: Piece) -> usize
-    requires { at + length (piece_text piece) ≤ length buffer.old }
-    ensures text { buffer.new ≡ put buffer.old at (piece_text piece.entry) }
-    ensures end { result ≡ at + length (piece_text piece.entry) }
-{
-    match piece {
-        Piece::Fixed(bytes) => put_bytes(buffer, at, bytes),
-        Piece::Number(n) => put_bytes(buffer, at, Buffer::new().format(n).as_bytes()),
+impl<'a> Text<'a> {
+    // No text yet, at the start of a buffer.
+    pub(crate) fn new(buffer: &'a mut [u8]) -> Text<'a>
+        ensures same { result.buffer.ghost_name ≡ buffer.entry.ghost_name }
+        ensures bytes { result.buffer.now ≡ buffer.old }
+        ensures end { result.end ≡ 0 }
+    {
+        Text { buffer, end: 0 }
     }
-}
 
-// Writes pieces, one after another.
-pub(crate) fn put_all(buffer: &mut [u8], at: usize, pieces: &[Piece]) -> usize
-    requires { at + length (pieces_text pieces.now) ≤ length buffer.old }
-    ensures text { buffer.new ≡ put buffer.old at (pieces_text pieces.now) }
-    ensures end { result ≡ at + length (pieces_text pieces.now) }
-{
-    let mut end = at;
-    for piece in pieces {
-        end = put_piece(buffer, end, *piece);
+    // Writes bytes.
+    fn put_bytes(&mut self, bytes: &[u8])
+        requires { HasRoom self.old bytes.now }
+        ensures { Puts self.old self.new bytes.now }
+    {
+        let end = self.end + bytes.len();
+        self.buffer[self.end..end].copy_from_slice(bytes);
+        self.end = end;
     }
-    end
+
+    fn put_piece(&mut self, piece: Piece)
+        requires { HasRoom self.old (piece_text piece) }
+        ensures { Puts self.old self.new (piece_text piece.entry) }
+    {
+        match piece {
+            Piece::Fixed(bytes) => self.put_bytes(bytes),
+            Piece::Number(n) => self.put_bytes(Buffer::new().format(n).as_bytes()),
+        }
+    }
+
+    // Writes pieces, one after another.
+    pub(crate) fn put_all(&mut self, pieces: &[Piece])
+        requires { HasRoom self.old (pieces_text pieces.now) }
+        ensures { Puts self.old self.new (pieces_text pieces.now) }
+    {
+        for piece in pieces {
+            self.put_piece(*piece);
+        }
+    }
 }

@@ -50,8 +50,8 @@ fn refusals(rt: HostRuntime) -> Result<(), Fail> {
         (Fault::JobPending, 0, b"refused 17 run 0\n"),
         (Fault::BufferTooShort, 0, b"refused 18 list 0\n"),
     ];
-    for row in &table {
-        expect(&rt, &Listing::Refused(Refusal::new(row.0, row.1, 0)), row.2)?;
+    for (fault, line, text) in table {
+        expect(&rt, &Listing::Refused(Refusal::new(fault, line, 0)), text)?;
     }
     Ok(())
 }
