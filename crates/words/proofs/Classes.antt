@@ -1,24 +1,13 @@
 -- Bytes one after another, each by its class.
-use Rattle.std.proofs.Common.{◌≡◌, ℕ, ◌+◌, ◌<◌, ◌≤◌, Bool, true, false, cond, ◌&&◌, ◌||◌, eqb, leb, List, ◌∷◌, length, get_or, drop, refl, ap, ◌∙◌, arith}
+use Rattle.std.proofs.Common.{◌≡◌, ℕ, ◌+◌, ◌<◌, ◌≤◌, Bool, true, false, cond, ◌&&◌, eqb, leb, List, ◌∷◌, length, get_or, drop, refl, ap, ◌∙◌, arith}
 use Rattle.std.proofs.lemmas.List.{at_drop_more}
 use Rattle.std.proofs.lemmas.Bool.{and_parts, and_right, leb-true, lt-leb}
 use Rattle.words.specs.declared.bytes.Class.{Class}
 use Rattle.words.specs.declared.bytes.Class.TheVariants.{Letter, Digit, Space, Feed, Foreign}
-use Rattle.words.specs.Bytes.{is_letter, is_digit, class_of, known}
+use Rattle.words.specs.Bytes.{is_letter, is_digit, class_of}
 
 abbrev by_tests : Bool → Bool → Bool → Bool → Class
 by_tests p q r s = cond p Letter (cond q Digit (cond r Space (cond s Feed Foreign)))
-
-letter_told : (p q r s : Bool) → by_tests p q r s ≡ Letter → p ≡ true
-letter_told true q r s e = refl
-letter_told false true r s e = cc
-letter_told false false true s e = cc
-letter_told false false false true e = cc
-letter_told false false false false e = cc
-
-letter_not_told : (p q r s : Bool) → (by_tests p q r s ≡ Letter → ⊥) → p ≡ false
-letter_not_told true q r s ne = absurd (ne refl)
-letter_not_told false q r s ne = refl
 
 digit_told : (p q r s : Bool) → by_tests p q r s ≡ Digit → q ≡ true
 digit_told true q r s e = cc
@@ -32,43 +21,17 @@ digit_not_told true q r s apart ne = apart refl
 digit_not_told false true r s apart ne = absurd (ne refl)
 digit_not_told false false r s apart ne = refl
 
-foreign_told : (p q r s : Bool) → by_tests p q r s ≡ Foreign → (p || (q || (r || s))) ≡ false
-foreign_told true q r s e = cc
-foreign_told false true r s e = cc
-foreign_told false false true s e = cc
-foreign_told false false false true e = cc
-foreign_told false false false false e = refl
-
-foreign_not_told : (p q r s : Bool) → (by_tests p q r s ≡ Foreign → ⊥) → (p || (q || (r || s))) ≡ true
-foreign_not_told true q r s ne = refl
-foreign_not_told false true r s ne = refl
-foreign_not_told false false true s ne = refl
-foreign_not_told false false false true ne = refl
-foreign_not_told false false false false ne = absurd (ne refl)
-
 letter_no_digit : (b : ℕ) → is_letter b ≡ true → is_digit b ≡ false
 letter_no_digit b e =
     let low : 97 ≤ b = leb-true 97 b (and_parts (leb 97 b) (leb b 122) e).0 in
     and_right (leb 48 b) (leb b 57) (lt-leb b 57 (omega arith))
 
 module _ (b : ℕ) where
-  pub letter_if : class_of b ≡ Letter → is_letter b ≡ true
-  letter_if e = letter_told (is_letter b) (is_digit b) (eqb b 32) (eqb b 10) e
-
-  pub no_letter_if : (class_of b ≡ Letter → ⊥) → is_letter b ≡ false
-  no_letter_if ne = letter_not_told (is_letter b) (is_digit b) (eqb b 32) (eqb b 10) ne
-
   pub digit_if : class_of b ≡ Digit → is_digit b ≡ true
   digit_if e = digit_told (is_letter b) (is_digit b) (eqb b 32) (eqb b 10) e
 
   pub no_digit_if : (class_of b ≡ Digit → ⊥) → is_digit b ≡ false
   no_digit_if ne = digit_not_told (is_letter b) (is_digit b) (eqb b 32) (eqb b 10) (letter_no_digit b) ne
-
-  pub unknown_if : class_of b ≡ Foreign → known b ≡ false
-  unknown_if e = foreign_told (is_letter b) (is_digit b) (eqb b 32) (eqb b 10) e
-
-  pub known_if : (class_of b ≡ Foreign → ⊥) → known b ≡ true
-  known_if ne = foreign_not_told (is_letter b) (is_digit b) (eqb b 32) (eqb b 10) ne
 
 -- whether every byte passes a test, where those before i did
 module _ (test : ℕ → Bool) (all : List ℕ → Bool) (step : (c : ℕ) (cs : List ℕ) → all (c ∷ cs) ≡ (test c && all cs)) (xs : List ℕ) (i : ℕ) where

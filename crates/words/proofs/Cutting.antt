@@ -1,24 +1,9 @@
 -- How the pieces of a text come from its first piece and the rest, and why no other cut is there.
-use Rattle.std.proofs.Common.{◌≡◌, ℕ, zero, suc, ◌+◌, ◌<◌, ◌≤◌, Bool, true, false, cond, not, ◌&&◌, eqb, List, [], ◌∷◌, ◌++◌, length, get_or, take, drop, sym, refl, ap, ◌∙◌, arith}
-use Rattle.std.proofs.lemmas.List.{drop_more, drop_all}
-use Rattle.std.proofs.lemmas.Bool.{eq-eqb, ne_eqb, eqb-true, and_parts, not-true, cond-true, cond-false}
+use Rattle.std.proofs.Common.{◌≡◌, ℕ, suc, ◌+◌, ◌<◌, ◌≤◌, Bool, true, false, cond, not, ◌&&◌, eqb, ltb, List, [], ◌∷◌, ◌++◌, length, get_or, take, drop, Some, None, Option, MatchOption, unwrap_or, sym, refl, subst, ap, ◌∙◌, arith}
+use Rattle.std.proofs.lemmas.List.{drop_more, drop_all, take_all}
+use Rattle.std.proofs.lemmas.Bool.{ltb-true, ltb-false, eq-eqb, eqb-true, and_parts, not-true, cond-true, cond-false}
+use Rattle.std.specs.List.{position_or_len, position}
 use Rattle.words.specs.Split.{before, onward, onto, pieces, following, joined, lacks, all_lack, OnlyCut}
-
--- the part up to the place of the first s, and what follows
-pub cut_at : (s : ℕ) (xs : List ℕ) (r : ℕ) → r ≤ length xs → ((k : ℕ) → k < r → get_or xs k 0 ≡ s → ⊥) → (r < length xs → get_or xs r 0 ≡ s) → (take r xs ≡ before s xs) × (drop r xs ≡ onward s xs)
-cut_at s [] zero h passed found = (refl, refl)
-cut_at s [] (suc r) h passed found = (refl, refl)
-cut_at s (x ∷ xs) zero h passed found =
-    let e : eqb x s ≡ true = eq-eqb x s (found (omega arith)) in (
-      sym (cond-true (eqb x s) [] (x ∷ before s xs) e),
-      sym (cond-true (eqb x s) (x ∷ xs) (onward s xs) e),
-    )
-cut_at s (x ∷ xs) (suc r) h passed found =
-    let e : eqb x s ≡ false = ne_eqb x s (passed 0 (omega arith)) in
-    let more = cut_at s xs r (omega arith) (λ k lt. passed (suc k) (omega arith)) (λ lt. found (omega arith)) in (
-      ap (λ ys. x ∷ ys) more.0 ∙ sym (cond-false (eqb x s) [] (x ∷ before s xs) e),
-      more.1 ∙ sym (cond-false (eqb x s) (x ∷ xs) (onward s xs) e),
-    )
 
 starts_by : (s x : ℕ) (xs zs : List ℕ) (b : Bool) → eqb x s ≡ b → ((y : ℕ) (ys : List ℕ) → zs ≡ y ∷ ys → y ≡ s) → (y : ℕ) (ys : List ℕ) → cond b (x ∷ xs) zs ≡ y ∷ ys → y ≡ s
 starts_by s x xs zs true t more y ys e = let same : x ≡ y = cc in sym same ∙ eqb-true x s t
@@ -28,15 +13,61 @@ onward_starts : (s : ℕ) (xs : List ℕ) (y : ℕ) (ys : List ℕ) → onward s
 onward_starts s [] y ys e = let z : ◌≡◌ {A = ℕ} 0 1 = cc in absurd (omega arith)
 onward_starts s (x ∷ xs) y ys e = starts_by s x xs (onward s xs) (eqb x s) refl (onward_starts s xs) y ys e
 
--- there is no s, or an s and what stands after it
-module _ (s : ℕ) (xs : List ℕ) (r : ℕ) (e : drop r xs ≡ onward s xs) where
-  pub none_at : r ≡ length xs → onward s xs ≡ []
-  none_at all = sym e ∙ drop_all r xs (omega arith)
+-- there is no s: all stands before it
+pub record IsNowhere (s : ℕ) (text : List ℕ) : Type 0 where
+  pub front : before s text ≡ text
+  pub back : onward s text ≡ []
 
-  pub found_at : r < length xs → s ∷ drop (r + 1) xs ≡ onward s xs
-  found_at less =
-      let on : onward s xs ≡ get_or xs r 0 ∷ drop (r + 1) xs = sym e ∙ drop_more xs r 0 less in
-      ap (λ y. y ∷ drop (r + 1) xs) (sym (onward_starts s xs (get_or xs r 0) (drop (r + 1) xs) on)) ∙ sym on
+-- the first s stands at a place
+pub record IsFirstAt (s : ℕ) (text : List ℕ) (place : ℕ) : Type 0 where
+  pub within : place < length text
+  pub front : before s text ≡ take place text
+  pub back : onward s text ≡ drop place text
+  pub behind : onward s text ≡ s ∷ drop (place + 1) text
+
+-- where the first s stands, if there is one
+module _ (s : ℕ) where
+  abbrev place : List ℕ → ℕ
+  place xs = position_or_len (λ x. eqb x s) xs
+
+  one_more : (xs : List ℕ) → suc (place xs) ≡ 1 + place xs
+  one_more xs = omega arith
+
+  place_front : (xs : List ℕ) → before s xs ≡ take (place xs) xs
+  place_front [] = refl
+  place_front (x ∷ xs) =
+      elim (eqb x s) as (λ b. cond b [] (x ∷ before s xs) ≡ take (cond (not b) (1 + place xs) 0) (x ∷ xs)) [
+        | true ↦ refl
+        | false ↦ ap (λ ys. x ∷ ys) (place_front xs) ∙ ap (λ k. take k (x ∷ xs)) (one_more xs)
+      ]
+
+  place_back : (xs : List ℕ) → onward s xs ≡ drop (place xs) xs
+  place_back [] = refl
+  place_back (x ∷ xs) =
+      elim (eqb x s) as (λ b. cond b (x ∷ xs) (onward s xs) ≡ drop (cond (not b) (1 + place xs) 0) (x ∷ xs)) [
+        | true ↦ refl
+        | false ↦ place_back xs ∙ ap (λ k. drop k (x ∷ xs)) (one_more xs)
+      ]
+
+  placed : (xs : List ℕ) (b : Bool) → ltb (place xs) (length xs) ≡ b → MatchOption (cond b (Some (place xs)) None) (IsNowhere s xs) (λ r. IsFirstAt s xs r)
+  placed xs true h =
+      let less : place xs < length xs = ltb-true (place xs) (length xs) h in
+      let on : onward s xs ≡ get_or xs (place xs) 0 ∷ drop (place xs + 1) xs = place_back xs ∙ drop_more xs (place xs) 0 less in
+      record { within = less; front = place_front xs; back = place_back xs; behind = on ∙ ap (λ y. y ∷ drop (place xs + 1) xs) (onward_starts s xs (get_or xs (place xs) 0) (drop (place xs + 1) xs) on) }
+  placed xs false h =
+      let all : length xs ≤ place xs = ltb-false (place xs) (length xs) h in
+      record { front = place_front xs ∙ take_all (place xs) xs all; back = place_back xs ∙ drop_all (place xs) xs all }
+
+  pub found : (xs : List ℕ) (o : Option ℕ) → o ≡ position (λ x. eqb x s) xs → MatchOption o (IsNowhere s xs) (λ r. IsFirstAt s xs r)
+  found xs o e = subst (λ u. MatchOption u (IsNowhere s xs) (λ r. IsFirstAt s xs r)) (sym e) (placed xs (ltb (place xs) (length xs)) refl)
+
+  cut_by : (xs : List ℕ) (o : Option ℕ) → MatchOption o (IsNowhere s xs) (λ r. IsFirstAt s xs r) → (take (unwrap_or o (length xs)) xs ≡ before s xs) × (drop (unwrap_or o (length xs)) xs ≡ onward s xs)
+  cut_by xs None p = (take_all (length xs) xs (omega arith) ∙ sym p.front, drop_all (length xs) xs (omega arith) ∙ sym p.back)
+  cut_by xs (Some r) p = (sym p.front, sym p.back)
+
+  -- the two parts of a text that is cut there, or at its end
+  pub cut_at : (xs : List ℕ) (o : Option ℕ) → o ≡ position (λ x. eqb x s) xs → (take (unwrap_or o (length xs)) xs ≡ before s xs) × (drop (unwrap_or o (length xs)) xs ≡ onward s xs)
+  cut_at xs o e = cut_by xs o (found xs o e)
 
 pub pieces_first : (s : ℕ) (xs : List ℕ) → pieces s xs ≡ before s xs ∷ following s (onward s xs)
 pieces_first s [] = refl

@@ -1,11 +1,11 @@
 -- Numbers in decimal: what digits write, and that a word with a value is what decimal printing writes of it.
-use Rattle.std.proofs.Common.{◌≡◌, ℕ, ◌+◌, ◌-◌, ◌*◌, ◌<◌, ◌≤◌, min, Bool, true, false, cond, not, ◌&&◌, eqb, ltb, leb, List, [], ◌∷◌, length, get_or, drop, Some, None, decimal, Option, sym, refl, ap, ◌∙◌, inl, inr, arith, rules}
-use Rattle.std.proofs.lemmas.Bool.{ne_eqb, eqb-false, and_parts, and_from, and_left, and_right, not-true, not_from_false, cond-true, cond-false, cases_lt, le-leb, lt-leb, lt-ltb, leb-true}
+use Rattle.std.proofs.Common.{◌≡◌, ℕ, ◌+◌, ◌-◌, ◌*◌, ◌<◌, ◌≤◌, min, Bool, true, false, cond, not, ◌&&◌, eqb, leb, List, [], ◌∷◌, length, get_or, drop, Some, None, decimal, sym, refl, ap, ◌∙◌, inl, inr, arith, rules}
+use Rattle.std.proofs.lemmas.Bool.{ne_eqb, eqb-false, and_parts, and_from, not-true, not_from_false, cond-true, cases_lt, le-leb, leb-true}
 use Rattle.std.proofs.lemmas.List.{at_drop_more, at_drop_all}
 use Rattle.std.proofs.lemmas.Str.Parse.{IsNumeralModel, numerals_by_fold}
 use Rattle.std.proofs.lemmas.Fmt.{decimal-digits_value, digits_value-decimal, digits_decimal, decimal_nonempty, first_decimal, decimal_digit}
 use Rattle.words.specs.Bytes.{is_digit}
-use Rattle.words.specs.Numbers.{read_on, all_digits, numeral, plain_front, value_of, Writes, NumberRule}
+use Rattle.words.specs.Numbers.{read_on, all_digits, numeral, value_of, Writes, NumberRule}
 use Rattle.words.specs.Split.{lacks}
 
 own : IsNumeralModel (λ ds. all_digits ds ≡ true) (read_on 0)
@@ -87,50 +87,3 @@ value_on w i n m h e is =
 
 pub value_end : (w : List ℕ) (i n : ℕ) → length w ≤ i → n ≤ 1000001 → min (read_on 0 w) 1000001 ≡ min (read_on n (drop i w)) 1000001 → n ≡ min (read_on 0 w) 1000001
 value_end w i n h small e = omega (arith, at_drop_all (read_on n) w i h)
-
-and_true : (b : Bool) → b ≡ (b && true)
-and_true true = refl
-and_true false = refl
-
-front_by : (b p q x : Bool) → p ≡ true → q ≡ true → (not b && x) ≡ ((p && not (b && q)) && x)
-front_by true p q x e f = sym (ap (λ u. (u && not (true && q)) && x) e ∙ ap (λ u. (true && not (true && u)) && x) f)
-front_by false p q x e f = sym (ap (λ u. (u && not (false && q)) && x) e)
-
-numeral_by : (w : List ℕ) → numeral w ≡ (plain_front w && all_digits w)
-numeral_by [] = refl
-numeral_by (c ∷ []) =
-    elim (eqb c 48) as (λ b. is_digit c ≡ (not (b && false) && (is_digit c && true))) [
-      | true ↦ and_true (is_digit c)
-      | false ↦ and_true (is_digit c)
-    ]
-numeral_by (c ∷ d ∷ cs) = front_by (eqb c 48) (ltb 0 (length (c ∷ d ∷ cs))) (ltb 1 (length (c ∷ d ∷ cs))) (all_digits (c ∷ d ∷ cs)) (lt-ltb 0 (length (c ∷ d ∷ cs)) (omega arith)) (lt-ltb 1 (length (c ∷ d ∷ cs)) (omega arith))
-
--- the value of a word, by its front and its digits, of which the number is known only up to one above the limit
-module _ (w : List ℕ) where
-  abbrev reading : Option ℕ
-  reading = cond (all_digits w) (Some (min (read_on 0 w) 1000001)) None
-
-  pub no_front : plain_front w ≡ false → None ≡ value_of w
-  no_front e = sym (cond-false (numeral w && leb (read_on 0 w) 1000000) (Some (read_on 0 w)) None (and_left (numeral w) (leb (read_on 0 w) 1000000) (numeral_by w ∙ and_left (plain_front w) (all_digits w) e)))
-
-  no_digits_by : (b : Bool) → all_digits w ≡ b → None ≡ cond b (Some (min (read_on 0 w) 1000001)) None → None ≡ value_of w
-  no_digits_by true e h = let z : ◌≡◌ {A = ℕ} 0 1 = cc in absurd (omega arith)
-  no_digits_by false e h = sym (cond-false (numeral w && leb (read_on 0 w) 1000000) (Some (read_on 0 w)) None (and_left (numeral w) (leb (read_on 0 w) 1000000) (numeral_by w ∙ and_right (plain_front w) (all_digits w) e)))
-
-  pub no_digits : None ≡ reading → None ≡ value_of w
-  no_digits h = no_digits_by (all_digits w) refl h
-
-  some_digits_by : (v : ℕ) (b : Bool) → all_digits w ≡ b → Some v ≡ cond b (Some (min (read_on 0 w) 1000001)) None → (all_digits w ≡ true) × (v ≡ min (read_on 0 w) 1000001)
-  some_digits_by v true e h = (e, cc)
-  some_digits_by v false e h = let z : ◌≡◌ {A = ℕ} 0 1 = cc in absurd (omega arith)
-
-  pub above_limit : (v : ℕ) → Some v ≡ reading → 1000000 < v → None ≡ value_of w
-  above_limit v h more =
-      let told = some_digits_by v (all_digits w) refl h in
-      sym (cond-false (numeral w && leb (read_on 0 w) 1000000) (Some (read_on 0 w)) None (and_right (numeral w) (leb (read_on 0 w) 1000000) (lt-leb (read_on 0 w) 1000000 (omega (arith, told.1)))))
-
-  pub within_limit : (v : ℕ) → plain_front w ≡ true → Some v ≡ reading → v ≤ 1000000 → Some v ≡ value_of w
-  within_limit v front h small =
-      let told = some_digits_by v (all_digits w) refl h in
-      let same : v ≡ read_on 0 w = omega (arith, told.1) in
-      ap Some same ∙ sym (cond-true (numeral w && leb (read_on 0 w) 1000000) (Some (read_on 0 w)) None (and_from (numeral w) (leb (read_on 0 w) 1000000) (numeral_by w ∙ and_from (plain_front w) (all_digits w) front told.0) (le-leb (read_on 0 w) 1000000 (omega arith))))

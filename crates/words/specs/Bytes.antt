@@ -1,5 +1,6 @@
 -- The bytes of a sheet: letters a to z, digits, spaces and line feeds. Any other byte is foreign.
-use Rattle.std.specs.Prelude.{ℕ, Bool, true, cond, ◌&&◌, ◌||◌, List, [], ◌∷◌, ◌==◌, nat_le}
+use Rattle.std.specs.Prelude.{ℕ, Bool, cond, ◌&&◌, ◌||◌, List, ◌==◌, nat_le}
+use Rattle.std.specs.List.{list_all}
 use Rattle.words.specs.declared.bytes.Class.{Class}
 use Rattle.words.specs.declared.bytes.Class.TheVariants.{Letter, Digit, Space, Feed, Foreign}
 
@@ -17,5 +18,4 @@ known b = is_letter b || (is_digit b || (b == 32 || b == 10))
 
 -- every byte is known
 abbrev pub clean : List ℕ → Bool
-clean [] = true
-clean (b ∷ bs) = known b && clean bs
+clean bytes = list_all known bytes

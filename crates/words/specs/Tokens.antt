@@ -1,5 +1,6 @@
 -- The words of a line: letters, or a number.
 use Rattle.std.specs.Prelude.{◌≡◌, ℕ, ◌-◌, Bool, true, cond, ◌&&◌, List, [], ◌∷◌, length, is_some, Some, None, Option}
+use Rattle.std.specs.List.{list_all}
 use Rattle.refusal.specs.declared.Fault.{Fault}
 use Rattle.refusal.specs.declared.Fault.TheVariants.{ForeignByte, BadWord}
 use Rattle.words.specs.declared.token.Token.{Token}
@@ -13,8 +14,7 @@ pub data Word : Type 0 where
   number : ℕ → Word
 
 abbrev pub all_letters : List ℕ → Bool
-all_letters [] = true
-all_letters (c ∷ cs) = is_letter c && all_letters cs
+all_letters bytes = list_all is_letter bytes
 
 abbrev pub as_number : Option ℕ → Option Word
 as_number None = None

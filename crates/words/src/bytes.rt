@@ -28,22 +28,12 @@ pub fn class_of(byte: u8) -> Class
 pub(crate) fn is_clean(bytes: &[u8]) -> bool
     ensures { result ≡ clean bytes.now }
 {
-    for byte in bytes {
-        if class_of(*byte) == Class::Foreign {
-            return false;
-        }
-    }
-    true
+    bytes.iter().all(|byte| class_of(*byte) != Class::Foreign)
 }
 
 // Whether every byte is a letter.
 pub(crate) fn all_letters(bytes: &[u8]) -> bool
     ensures { result ≡ all_letters bytes.now }
 {
-    for byte in bytes {
-        if class_of(*byte) != Class::Letter {
-            return false;
-        }
-    }
-    true
+    bytes.iter().all(|byte| class_of(*byte) == Class::Letter)
 }

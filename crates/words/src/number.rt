@@ -8,7 +8,8 @@ const LIMIT: u32 = 1_000_000;
 
 const ABOVE: u32 = LIMIT + 1;
 
-// What digits write, or one above the limit if they write more. Nothing if there is another byte.
+// What digits write, or one above the limit if they write more. Nothing if there is another byte. A loop, and no `try_fold`:
+// the sum fits since the value so far was cut down, and the closure of a fold is told nothing of the value that it gets.
 fn digits_value(digits: &[u8]) -> Option<u32>
     ensures { result ≡ (if all_digits digits.now then Some (min (read_on 0 digits.now) 1000001) else None) }
 {
@@ -26,7 +27,7 @@ fn digits_value(digits: &[u8]) -> Option<u32>
 fn has_plain_front(word: &[u8]) -> bool
     ensures { result ≡ plain_front word.now }
 {
-    !word.is_empty() && !(word[0] == b'0' && word.len() > 1)
+    !matches!(word, [] | [b'0', _, ..])
 }
 
 // The number that a word writes, if it is one: digits, with no 0 before another digit, of at most 1,000,000.
@@ -37,9 +38,5 @@ pub fn number_of(word: &[u8]) -> Option<u32>
     if !has_plain_front(word) {
         return None;
     }
-    let value = digits_value(word)?;
-    if value > LIMIT {
-        return None;
-    }
-    Some(value)
+    digits_value(word).filter(|value| *value <= LIMIT)
 }

@@ -16,7 +16,8 @@ pub struct Line<'a> {
     pub number: u32,
 }
 
-// A word: its spelling in the sheet, the number of its line, and the place of its first byte in that line.
+// A word: its spelling in the sheet, the number of its line, and the place of its first byte in that line. Each case has all
+// three, and no struct for them: a token is its kind first, and borrows its spelling in either.
 #[derive(Clone, Copy)]
 pub enum Token<'a> {
     Keyword {
@@ -47,9 +48,7 @@ pub fn next_token<'a>(line: Line<'a>, rest: &'a [u8]) -> Result<(Token<'a>, &'a 
         };
         return Ok((token, after));
     }
-    let Some(value) = number_of(spelling) else {
-        return Err(Fault::BadWord);
-    };
+    let value = number_of(spelling).ok_or(Fault::BadWord)?;
     let token = Token::Number {
         spelling,
         line,

@@ -1,14 +1,17 @@
-use Rattle.std.proofs.Common.{◌+◌, ◌<◌, ◌∷◌, length, ap, ◌∙◌, arith}
+use Rattle.std.proofs.Common.{◌+◌, ◌∷◌, length, Some, None, sym, ap, ◌∙◌, arith}
 use Rattle.std.proofs.lemmas.List.{take_rest, length-drop}
+use Rattle.words.proofs.Cutting.{IsNowhere, IsFirstAt, found}
 use Rattle.words.proofs.split.first_line.Goals as goal
+
+pub returns-in_err-end : goal.returns-in_err-end
+returns-in_err-end c =
+    let none : IsNowhere 10 c.args.sheet.now = found 10 c.args.sheet.now None c.in_err-end.ensures in
+    rw c.from_residual.ensures none.back
 
 pub returns : goal.returns
 returns c =
     let sheet = c.args.sheet.now in
-    let end = c.place_of-end.result in
-    let less : end < length sheet = omega arith in
-    let rest = take_rest sheet (end + 1) in (
-      c.place_of-end.ensures.front,
-      ap (λ ys. 10 ∷ ys) rest ∙ c.place_of-end.ensures.found less,
-      omega (arith, ap length rest, length-drop (end + 1) sheet),
-    )
+    let end = c.in_ok-end.end in
+    let first : IsFirstAt 10 sheet end = found 10 sheet (Some end) c.in_ok-end.ensures in
+    let rest = take_rest sheet (end + 1) in
+    (sym first.front, ap (λ ys. 10 ∷ ys) rest ∙ sym first.behind, omega (arith, first.within, ap length rest, length-drop (end + 1) sheet))
