@@ -1,20 +1,10 @@
 -- The numbers of a line, one after another.
-use Rattle.std.proofs.Common.{◌≡◌, ℕ, suc, ◌+◌, ◌-◌, ◌<◌, ◌≤◌, min, true, false, cond, eqb, ltb, List, [], ◌∷◌, ◌++◌, length, take, drop, set, replicate, sym, refl, ap, ◌∙◌, inl, inr, append_assoc, arith}
-use Rattle.std.proofs.lemmas.List.{take_rest, take_all, take-append-le, set_at, length_push}
+use Rattle.std.proofs.Common.{◌≡◌, ℕ, suc, ◌+◌, ◌-◌, ◌<◌, ◌≤◌, min, true, false, cond, eqb, ltb, List, [], ◌∷◌, ◌++◌, length, take, set, replicate, sym, refl, ap, ◌∙◌, inl, inr, append_assoc, arith}
+use Rattle.std.proofs.lemmas.List.{take_all, take-append-le, set_at, length_push}
 use Rattle.std.proofs.lemmas.Bool.{eqb-false, cases_lt, lt-ltb, le-ltb}
-use Rattle.words.specs.Numbers.{value_of}
-use Rattle.words.specs.Split.{before, onward}
+use Rattle.words.specs.Split.{onward}
 use Rattle.lines.specs.Rows.{costs_of}
-use Rattle.lines.specs.Numbers.{front, behind}
-
--- what stands after the space
-pub front_of : (rest : List ℕ) → 1 ≤ length rest → front rest ≡ value_of (before 32 (take (length rest - 1) (drop 1 rest)))
-front_of [] h = absurd (omega arith)
-front_of (x ∷ xs) h = sym (ap (λ ys. value_of (before 32 ys)) (take_rest (x ∷ xs) 1))
-
-pub behind_of : (rest : List ℕ) → 1 ≤ length rest → behind rest ≡ onward 32 (take (length rest - 1) (drop 1 rest))
-behind_of [] h = absurd (omega arith)
-behind_of (x ∷ xs) h = sym (ap (onward 32) (take_rest (x ∷ xs) 1))
+use Rattle.lines.specs.Numbers.{behind}
 
 -- what follows a word is shorter
 onward_short : (s : ℕ) (xs : List ℕ) → length (onward s xs) ≤ length xs

@@ -7,7 +7,7 @@ ghost use Rattle.words.specs.Tokens.{told};
 ghost use Rattle.lines.specs.Numbers.{word_value, front, behind, numbers_after};
 ghost use Rattle.lines.specs.Rows.{kind_of, said, said_by, costs_said, row_said, read_line, LineRule, row_told};
 
-use crate::row::{Costs, KEPT, Kind, Row};
+use crate::row::{Costs, Kind, Row};
 use refusal::Fault;
 use words::split::first_word;
 use words::token::{Line, Token, check_line, next_token};
@@ -25,132 +25,106 @@ fn keyword(word: &[u8]) -> Option<Kind>
     }
 }
 
-// The value of a word that is a number.
-fn value(token: Token) -> Option<u32>
-    ensures { result ≡ word_value (told token.entry).word }
-{
-    match token {
-        Token::Keyword { .. } => None,
-        Token::Number { value, .. } => Some(value),
+// A line, and the rest of it that is still to be read.
+#[derive(Drop)]
+struct Reader<'a> {
+    line: Line<'a>,
+    rest: &'a [u8],
+}
+
+impl<'a> Reader<'a> {
+    // The number after the space with which the rest begins.
+    fn number(&mut self) -> Option<u32>
+        ensures { MatchOption result (front self.old.rest.now ≡ None) (λ n. (front self.old.rest.now ≡ Some n) × (self.new.rest.now ≡ behind self.old.rest.now)) }
+    {
+        let (_, words) = self.rest.split_first()?;
+        let Ok((Token::Number { value, .. }, rest)) = next_token(self.line, words) else {
+            return None;
+        };
+        self.rest = rest;
+        Some(value)
     }
-}
 
-// The number with which the rest of a line begins, and what follows it.
-fn first_number<'a>(line: Line<'a>, rest: &'a [u8]) -> Option<(u32, &'a [u8])>
-    ensures { MatchOption result (value_of (before 32 rest.now) ≡ None) (λ p. (value_of (before 32 rest.now) ≡ Some p.0) × (p.1.now ≡ onward 32 rest.now)) }
-{
-    let Ok((token, after)) = next_token(line, rest) else {
-        return None;
-    };
-    let number = value(token)?;
-    Some((number, after))
-}
-
-// The number after the space with which the rest of a line begins, and what follows it.
-fn number<'a>(line: Line<'a>, rest: &'a [u8]) -> Option<(u32, &'a [u8])>
-    ensures { MatchOption result (front rest.now ≡ None) (λ p. (front rest.now ≡ Some p.0) × (p.1.now ≡ behind rest.now)) }
-{
-    if rest.is_empty() {
-        return None;
+    // The costs to the end of the line: at least one.
+    fn costs(&mut self) -> Option<Costs>
+        ensures { result ≡ costs_said (numbers_after self.old.rest.now) }
+    {
+        let mut costs = Costs::none();
+        while !self.rest.is_empty() {
+            let cost = self.number()?;
+            costs.push(cost);
+        }
+        (costs.count > 0).then_some(costs)
     }
-    first_number(line, &rest[1..])
-}
 
-// One cost more, if there is a place for it.
-fn pushed(mut costs: Costs, cost: u32) -> Costs
-    ensures { result ≡ (if ltb costs.count 9 then (record { numbers = slice_set costs.numbers costs.count cost; count = costs.count + 1 }) else costs) }
-{
-    if costs.count < KEPT {
-        costs.numbers[costs.count] = cost;
-        costs.count += 1;
+    // A row, if nothing is left on its line.
+    fn ended(&self, row: Row) -> Option<Row>
+        ensures { result ≡ (if nat_eq (length self.now.rest.now) 0 then Some row else None) }
+    {
+        self.rest.is_empty().then_some(row)
     }
-    costs
-}
 
-// The costs on the rest of a line, to its end: at least one.
-fn costs_of<'a>(line: Line<'a>, rest: &'a [u8]) -> Option<Costs>
-    ensures { result ≡ costs_said (numbers_after rest.now) }
-{
-    let mut costs = Costs {
-        numbers: [0; 9],
-        count: 0,
-    };
-    let mut rest = rest;
-    while !rest.is_empty() {
-        let (cost, after) = number(line, rest)?;
-        costs = pushed(costs, cost);
-        rest = after;
+    // The row of a `cycle` line.
+    fn cycle_row(&mut self) -> Option<Row>
+        ensures { result ≡ row_said (said (Some Cycle) (numbers_after self.old.rest.now)) }
+    {
+        let length = self.number()?;
+        self.ended(Row::Cycle { length })
     }
-    if costs.count == 0 { None } else { Some(costs) }
-}
 
-// A row, if nothing is left on its line.
-fn ended(row: Row, rest: &[u8]) -> Option<Row>
-    ensures { result ≡ (if nat_eq (length rest.now) 0 then Some row else None) }
-{
-    if rest.is_empty() { Some(row) } else { None }
-}
+    // The row of an `at` line.
+    fn at_row(&mut self) -> Option<Row>
+        ensures { result ≡ row_said (said (Some At) (numbers_after self.old.rest.now)) }
+    {
+        let offset = self.number()?;
+        let length = self.number()?;
+        self.ended(Row::At { offset, length })
+    }
 
-// The row of a `cycle` line, from the part after its keyword.
-fn cycle_row<'a>(line: Line<'a>, rest: &'a [u8]) -> Option<Row>
-    ensures { result ≡ row_said (said (Some Cycle) (numbers_after rest.now)) }
-{
-    let (length, rest) = number(line, rest)?;
-    ended(Row::Cycle { length }, rest)
-}
+    // The row of an `irq` line.
+    fn irq_row(&mut self) -> Option<Row>
+        ensures { result ≡ row_said (said (Some Irq) (numbers_after self.old.rest.now)) }
+    {
+        let period = self.number()?;
+        let jitter = self.number()?;
+        let costs = self.costs()?;
+        Some(Row::Irq {
+            period,
+            jitter,
+            costs,
+        })
+    }
 
-// The row of an `at` line.
-fn at_row<'a>(line: Line<'a>, rest: &'a [u8]) -> Option<Row>
-    ensures { result ≡ row_said (said (Some At) (numbers_after rest.now)) }
-{
-    let (offset, rest) = number(line, rest)?;
-    let (length, rest) = number(line, rest)?;
-    ended(Row::At { offset, length }, rest)
-}
+    // The row of a `task` line.
+    fn task_row(&mut self) -> Option<Row>
+        ensures { result ≡ row_said (said (Some Task) (numbers_after self.old.rest.now)) }
+    {
+        let period = self.number()?;
+        let jitter = self.number()?;
+        let blocking = self.number()?;
+        let deadline = self.number()?;
+        let hold = self.number()?;
+        let costs = self.costs()?;
+        Some(Row::Task {
+            period,
+            jitter,
+            blocking,
+            deadline,
+            hold,
+            costs,
+        })
+    }
 
-// The row of an `irq` line.
-fn irq_row<'a>(line: Line<'a>, rest: &'a [u8]) -> Option<Row>
-    ensures { result ≡ row_said (said (Some Irq) (numbers_after rest.now)) }
-{
-    let (period, rest) = number(line, rest)?;
-    let (jitter, after) = number(line, rest)?;
-    let costs = costs_of(line, after)?;
-    Some(Row::Irq {
-        period,
-        jitter,
-        costs,
-    })
-}
-
-// The row of a `task` line.
-fn task_row<'a>(line: Line<'a>, rest: &'a [u8]) -> Option<Row>
-    ensures { result ≡ row_said (said (Some Task) (numbers_after rest.now)) }
-{
-    let (period, rest) = number(line, rest)?;
-    let (jitter, rest) = number(line, rest)?;
-    let (blocking, rest) = number(line, rest)?;
-    let (deadline, rest) = number(line, rest)?;
-    let (hold, rest) = number(line, rest)?;
-    let costs = costs_of(line, rest)?;
-    Some(Row::Task {
-        period,
-        jitter,
-        blocking,
-        deadline,
-        hold,
-        costs,
-    })
-}
-
-// The row of a keyword, from the part of the line after it.
-fn row_with<'a>(kind: Kind, line: Line<'a>, rest: &'a [u8]) -> Option<Row>
-    ensures { result ≡ row_said (said (Some kind) (numbers_after rest.now)) }
-{
-    match kind {
-        Kind::Cycle => cycle_row(line, rest),
-        Kind::At => at_row(line, rest),
-        Kind::Irq => irq_row(line, rest),
-        Kind::Task => task_row(line, rest),
+    // The row of a keyword, from the part of the line after it.
+    fn row(&mut self, kind: Kind) -> Option<Row>
+        ensures { result ≡ row_said (said (Some kind) (numbers_after self.old.rest.now)) }
+    {
+        match kind {
+            Kind::Cycle => self.cycle_row(),
+            Kind::At => self.at_row(),
+            Kind::Irq => self.irq_row(),
+            Kind::Task => self.task_row(),
+        }
     }
 }
 
@@ -160,7 +134,7 @@ fn said_by(line: Line) -> Option<Row>
 {
     let (word, rest) = first_word(line.bytes);
     let kind = keyword(word)?;
-    row_with(kind, line, rest)
+    Reader { line, rest }.row(kind)
 }
 
 // What a line says, or what is wrong with it: a byte or a word that is none, and only then that it is no line.

@@ -1,5 +1,6 @@
 // What a line says.
-ghost use Rattle.std.specs.Prelude.{◌≡◌, min, take};
+ghost use Rattle.std.specs.Prelude.{◌≡◌, ◌+◌, min, ltb, if◌then◌else◌, [], take, slice_set};
+ghost use Rattle.lines.specs.Rows.{costs_of};
 
 // The keywords with which a line begins.
 #[derive(Clone, Copy, PartialEq, Eq, Debug)]
@@ -13,7 +14,8 @@ pub enum Kind {
 // How many costs are kept of a line: one more than any part may have, so that too many are seen to be too many.
 pub const KEPT: usize = 9;
 
-// The first nine costs of a line, with 0 after the last.
+// The first nine costs of a line, with 0 after the last. A table with a count beside it, and no `Vec`: the library allocates
+// nothing here, and a row is copied.
 #[derive(Clone, Copy)]
 pub struct Costs {
     pub numbers: [u32; 9],
@@ -46,6 +48,26 @@ pub enum Row {
 }
 
 impl Costs {
+    // No cost yet.
+    pub(crate) fn none() -> Costs
+        ensures { result ≡ costs_of [] }
+    {
+        Costs {
+            numbers: [0; 9],
+            count: 0,
+        }
+    }
+
+    // One cost more, if there is a place for it.
+    pub(crate) fn push(&mut self, cost: u32)
+        ensures { self.new ≡ (if ltb self.old.count 9 then (record { numbers = slice_set self.old.numbers self.old.count cost; count = self.old.count + 1 }) else self.old) }
+    {
+        if self.count < KEPT {
+            self.numbers[self.count] = cost;
+            self.count += 1;
+        }
+    }
+
     // The costs that are kept.
     pub fn list(&self) -> &[u32]
         ensures { result.now ≡ take (min 9 self.now.count) self.now.numbers }

@@ -15,4 +15,4 @@ pub returns : goal.returns
 returns c =
     let line = c.args.line.bytes.now in
     let kind = c.in_ok-kind.ensures ∙ ap kind_of c.first_word.ensures.word in
-    c.row_with.ensures ∙ (λ i. row_said (said (kind i) (numbers_after (c.first_word.ensures.rest i)))) ∙ sym (ap row_said (said_first line))
+    c.row.ensures ∙ (λ i. row_said (said (kind i) (numbers_after (c.first_word.ensures.rest i)))) ∙ sym (ap row_said (said_first line))
