@@ -62,19 +62,13 @@ impl Draft {
         &mut self,
         period: u32,
         jitter: u32,
-        blocking: u32,
-        deadline: u32,
-        hold: u32,
+        limit: Limit,
         costs: Costs,
     ) -> Result<(), Refusal>
-        ensures { MatchResult result (λ _. gone_on (view self.old) (Task period jitter blocking deadline hold costs) ≡ Ok (view self.new)) (λ e. gone_on (view self.old) (Task period jitter blocking deadline hold costs) ≡ Err e) }
+        ensures { MatchResult result (λ _. gone_on (view self.old) (Task period jitter limit.blocking limit.deadline limit.hold costs) ≡ Ok (view self.new)) (λ e. gone_on (view self.old) (Task period jitter limit.blocking limit.deadline limit.hold costs) ≡ Err e) }
     {
-        let limit = Limit {
-            blocking,
-            deadline,
-            hold,
-        };
         let task = self.tasks.count() + 1;
+        // No `map_err`: with it the search for the proof gives up.
         if let Err(fault) = self.tasks.add(period, jitter, limit, costs.list()) {
             return Err(Refusal {
                 fault,
@@ -104,7 +98,14 @@ impl Draft {
                 deadline,
                 hold,
                 costs,
-            } => self.add_task(period, jitter, blocking, deadline, hold, costs),
+            } => {
+                let limit = Limit {
+                    blocking,
+                    deadline,
+                    hold,
+                };
+                self.add_task(period, jitter, limit, costs)
+            }
         }
     }
 }

@@ -8,7 +8,7 @@ use crate::marking::marked;
 use listing::{Listing, ROOM, write_listing};
 use refusal::{Fault, Refusal};
 
-// What is listed of a sheet.
+// What is listed of a sheet. No `From` of such a result: a listing is made of one here alone, and the match says how.
 fn listing_of(sheet: &[u8]) -> Listing
     ensures { Listed sheet.now (listing_text result) }
 {

@@ -32,6 +32,7 @@ fn judged(finished: &Finished) -> Result<[u32; 16], Refusal>
     let draft = finished.draft;
     let bank = Pair::new(draft.rack, draft.schedule);
     let judged = OpenPlan::with_tasks(bank, draft.tasks).judge();
+    // No `map_err` and `?`: after them the proof no longer ties the refusal to the judge's outcome.
     if let Err(refusal) = judged.verdict().outcome() {
         return Err(refusal.on_line(line_of(finished, refusal.task)));
     }
@@ -47,6 +48,7 @@ fn part_marks(draft: &Draft) -> Marks
     ensures tasks { result.task_count ≡ 0 }
 {
     let mut marks = Marks::new();
+    // No `1..=count`: the last step of such a loop is a branch of its own behind it, and would be proved twice.
     for place in 0..draft.rack.count() {
         let _ = marks.add_part(draft.rack.load(place + 1).unwrap_or(0));
     }
@@ -59,10 +61,10 @@ fn task_mark(draft: &Draft, place: u32, bound: u32) -> TaskMark
     requires { place < draft.now.tasks.parts.count }
     ensures { result ≡ record { bound = bound; deadline = (limit_at draft.now.tasks.limits place).deadline; load = row_load (row_at draft.now.tasks.parts.rows place) } }
 {
-    let deadline = match draft.tasks.limit(place + 1) {
-        Some(limit) => limit.deadline,
-        None => 0,
-    };
+    let deadline = draft
+        .tasks
+        .limit(place + 1)
+        .map_or(0, |limit| limit.deadline);
     let load = draft.tasks.load(place + 1).unwrap_or(0);
     TaskMark {
         bound,
@@ -76,8 +78,9 @@ fn marks_of(draft: &Draft, bounds: &[u32; 16]) -> Marks
     ensures { marks_text result ≡ accepted_plan (view draft.now) bounds.now }
 {
     let mut marks = part_marks(draft);
-    for place in 0..draft.tasks.count() {
-        let _ = marks.add_task(task_mark(draft, place, bounds[place as usize]));
+    let told = &bounds[..draft.tasks.count() as usize];
+    for (place, bound) in told.iter().enumerate() {
+        let _ = marks.add_task(task_mark(draft, place as u32, *bound));
     }
     marks
 }

@@ -28,10 +28,7 @@ fn first(line: Line) -> Result<Draft, Refusal>
 fn begun(line: Line) -> Result<Draft, Refusal>
     ensures { MatchResult result (λ d. step line.entry.number None line.entry.bytes.now ≡ Ok (view d)) (λ e. step line.entry.number None line.entry.bytes.now ≡ Err e) }
 {
-    match first(line) {
-        Ok(draft) => Ok(draft),
-        Err(refusal) => Err(refusal.on_line(line.number)),
-    }
+    first(line).map_err(|refusal| refusal.on_line(line.number))
 }
 
 // What a later line makes of the draft, in place.
@@ -47,10 +44,7 @@ fn next(draft: &mut Draft, line: Line) -> Result<(), Refusal>
 fn step(draft: &mut Draft, line: Line) -> Result<(), Refusal>
     ensures { MatchResult result (λ _. step line.entry.number (Some (view draft.old)) line.entry.bytes.now ≡ Ok (view draft.new)) (λ e. step line.entry.number (Some (view draft.old)) line.entry.bytes.now ≡ Err e) }
 {
-    if let Err(refusal) = next(draft, line) {
-        return Err(refusal.on_line(line.number));
-    }
-    Ok(())
+    next(draft, line).map_err(|refusal| refusal.on_line(line.number))
 }
 
 // Reads the lines after the first into the draft, up to the first fault, and says how many lines the sheet has.

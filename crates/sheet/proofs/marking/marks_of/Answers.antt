@@ -1,4 +1,5 @@
-use Rattle.std.proofs.Common.{◌≡◌, ◌+◌, ◌++◌, get_or, ◌∙◌, arith}
+use Rattle.std.proofs.Common.{◌≡◌, ℕ, ◌+◌, ◌++◌, get_or, ◌∙◌, arith}
+use Rattle.std.proofs.lemmas.List.{length-take-le}
 use Rattle.listing.specs.Texts.{accepted_line, part_line, task_line, numbered, unmarked}
 use Rattle.sheet.specs.Marking.{part_load, task_mark}
 use Rattle.sheet.specs.Views.{view}
@@ -10,7 +11,7 @@ returns c =
     let p = view c.args.draft.now in
     let bounds = c.args.bounds.now in
     let marks = c.loop-place.marks in
-    let end : c.loop-place.place ≡ p.tasks = omega (arith, c.count-place-end.ensures) in
+    let end : c.loop-place.place ≡ p.tasks = omega (arith, c.count.ensures, length-take-le {A = ℕ}) in
     let tasks : marks.task_count ≡ p.tasks = c.loop-place.invariant.2 ∙ end in
     let loads = numbered_same part_line (λ k. get_or marks.parts k 0) (part_load p) (p.irqs + 1) c.loop-place.invariant.1 in
     let told = numbered_same task_line (λ k. get_or marks.tasks k unmarked) (task_mark p bounds) p.tasks (λ i h. c.loop-place.invariant.3 i (omega arith)) in
