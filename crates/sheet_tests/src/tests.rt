@@ -11,12 +11,7 @@ use std::test::Fail;
 
 // Whether every byte is still the one that the buffers are filled with, which no listing has.
 fn untouched(bytes: &[u8]) -> bool {
-    for byte in bytes {
-        if *byte != b'#' {
-            return false;
-        }
-    }
-    true
+    bytes.iter().all(|byte| *byte == b'#')
 }
 
 // That a sheet has this listing, and that the rest of the buffer stays as it was.
@@ -34,17 +29,15 @@ fn lists(rt: &impl Abort, sheet: &[u8], want: &[u8]) -> Result<(), Fail> {
 
 // That each sheet is refused with this number and line.
 fn all_refused(rt: &impl Abort, heap: Global, cases: &[(u32, u32, &str)]) -> Result<(), Fail> {
-    for case in cases {
-        let number = case.0;
-        let line = case.1;
-        let layer = match number {
+    for (number, line, sheet) in cases {
+        let layer = match *number {
             1..=3 => "words",
             4 => "lines",
             5..=8 => "plan",
             _ => "judge",
         };
         let want = format!(in heap; "refused {number} {layer} {line}\n")?;
-        lists(rt, case.2.as_bytes(), want.as_bytes())?;
+        lists(rt, sheet.as_bytes(), want.as_bytes())?;
     }
     Ok(())
 }
