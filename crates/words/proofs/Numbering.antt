@@ -1,7 +1,7 @@
 -- Numbers in decimal: what digits write, and that a word with a value is what decimal printing writes of it.
 use Rattle.std.proofs.Common.{◌≡◌, ℕ, ◌+◌, ◌-◌, ◌*◌, ◌<◌, ◌≤◌, min, Bool, true, false, cond, not, ◌&&◌, eqb, leb, List, [], ◌∷◌, length, get_or, drop, Some, None, decimal, sym, refl, ap, ◌∙◌, inl, inr, arith, rules}
 use Rattle.std.proofs.lemmas.Bool.{ne_eqb, eqb-false, and_parts, and_from, not-true, not_from_false, cond-true, cases_lt, le-leb, leb-true}
-use Rattle.std.proofs.lemmas.List.{at_drop_more, at_drop_all}
+use Rattle.std.proofs.lemmas.List.{at_drop_more}
 use Rattle.std.proofs.lemmas.Str.Parse.{IsNumeralModel, numerals_by_fold}
 use Rattle.std.proofs.lemmas.Fmt.{decimal-digits_value, digits_value-decimal, digits_decimal, decimal_nonempty, first_decimal, decimal_digit}
 use Rattle.words.specs.Bytes.{is_digit}
@@ -84,6 +84,3 @@ pub value_on : (w : List ℕ) (i n m : ℕ) → i < length w → min (read_on 0 
 value_on w i n m h e is =
     let next = 10 * n + (get_or w i 0 - 48) in
     e ∙ ap (λ v. min v 1000001) (at_drop_more (read_on n) w i 0 h) ∙ sym (capped next 1000001 (drop (i + 1) w)) ∙ ap (λ v. min (read_on v (drop (i + 1) w)) 1000001) (sym is)
-
-pub value_end : (w : List ℕ) (i n : ℕ) → length w ≤ i → n ≤ 1000001 → min (read_on 0 w) 1000001 ≡ min (read_on n (drop i w)) 1000001 → n ≡ min (read_on 0 w) 1000001
-value_end w i n h small e = omega (arith, at_drop_all (read_on n) w i h)
