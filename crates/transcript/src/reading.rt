@@ -37,10 +37,8 @@ fn verb_of(word: &[u8]) -> Option<Verb>
 fn number(rest: &[u8]) -> Option<(u32, &[u8])>
     ensures { MatchOption result (front rest.now ≡ None) (λ p. (front rest.now ≡ Some p.0) × (p.1.now ≡ behind rest.now)) }
 {
-    if rest.is_empty() {
-        return None;
-    }
-    let (word, after) = first_word(&rest[1..]);
+    let (_, text) = rest.split_first()?;
+    let (word, after) = first_word(text);
     let number = number_of(word)?;
     Some((number, after))
 }
@@ -53,13 +51,13 @@ fn one_number(rest: &[u8]) -> Option<u32>
     rest.is_empty().then_some(number)
 }
 
-// The two numbers on the rest of a line.
-fn two_numbers(rest: &[u8]) -> Option<(u32, u32)>
+// The two numbers on the rest of a line, of which the second counts units.
+fn two_numbers(rest: &[u8]) -> Option<(u32, u64)>
     ensures { result ≡ two (numbers_after rest.now) }
 {
     let (first, rest) = number(rest)?;
     let (second, rest) = number(rest)?;
-    rest.is_empty().then_some((first, second))
+    rest.is_empty().then_some((first, u64::from(second)))
 }
 
 // The call of a keyword, from the part of the line after it.
@@ -67,26 +65,11 @@ fn call_with(verb: Verb, rest: &[u8]) -> Option<Call>
     ensures { result ≡ call_with (Some verb) (numbers_after rest.now) }
 {
     match verb {
-        Verb::Offer => {
-            let (part, units) = two_numbers(rest)?;
-            Some(Call::Offer(part, u64::from(units)))
-        }
-        Verb::Release => {
-            let (task, units) = two_numbers(rest)?;
-            Some(Call::Release(task, u64::from(units)))
-        }
-        Verb::Hold => {
-            let (task, units) = two_numbers(rest)?;
-            Some(Call::Hold(task, u64::from(units)))
-        }
-        Verb::LetGo => {
-            let task = one_number(rest)?;
-            Some(Call::LetGo(task))
-        }
-        Verb::End => {
-            let task = one_number(rest)?;
-            Some(Call::End(task))
-        }
+        Verb::Offer => two_numbers(rest).map(|(part, units)| Call::Offer(part, units)),
+        Verb::Release => two_numbers(rest).map(|(task, units)| Call::Release(task, units)),
+        Verb::Hold => two_numbers(rest).map(|(task, units)| Call::Hold(task, units)),
+        Verb::LetGo => one_number(rest).map(Call::LetGo),
+        Verb::End => one_number(rest).map(Call::End),
         Verb::Tick => rest.is_empty().then_some(Call::Tick),
     }
 }

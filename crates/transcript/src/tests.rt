@@ -27,8 +27,8 @@ fn lines_of_calls(rt: HostRuntime) {
         (b"letgo 0", Call::LetGo(0)),
         (b"end 1000000", Call::End(1000000)),
     ];
-    for row in &table {
-        assert!(rt; call_of(row.0) == Some(row.1));
+    for (line, call) in table {
+        assert!(rt; call_of(line) == Some(call));
     }
 }
 
@@ -60,7 +60,7 @@ fn lines_of_no_call(rt: HostRuntime) {
         b"end -1",
         b"end 1\n",
     ];
-    for line in &table {
+    for line in table {
         assert!(rt; call_of(line) == None);
     }
 }
@@ -90,8 +90,8 @@ fn answers(rt: HostRuntime) -> Result<(), Fail> {
             "refused 1 words 0 task 0",
         ),
     ];
-    for row in &table {
-        expect(&rt, rt.alloc(), row.0, row.1)?;
+    for (answer, text) in table {
+        expect(&rt, rt.alloc(), answer, text)?;
     }
     Ok(())
 }

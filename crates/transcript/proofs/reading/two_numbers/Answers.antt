@@ -1,4 +1,4 @@
-use Rattle.std.proofs.Common.{ℕ, sym, refl, ap, ◌∙◌}
+use Rattle.std.proofs.Common.{ℕ, sym, refl, ◌∙◌}
 use Rattle.std.specs.Bool.{then_some}
 use Rattle.lines.proofs.Begun.{begin, ◌▸◌, missing}
 use Rattle.transcript.specs.Calls.{two}
@@ -15,5 +15,5 @@ pub returns : goal.returns
 returns c =
     let both : ℕ × ℕ = (c.in_ok-first.first, c.in_ok-second.second) in
     c.then_some.ensures
-    ∙ ap (λ b. then_some b both) c.is_empty.ensures
+    ∙ (λ i. then_some (c.is_empty.ensures i) (c.in_ok-first.first, c.from.ensures i))
     ∙ given_at_end two refl both (begin c.args.rest.now ▸ c.in_ok-first.ensures ▸ c.in_ok-second.ensures) refl (λ k ns. refl)
