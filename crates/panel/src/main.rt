@@ -41,16 +41,10 @@ fn print_window<S: Source>(rt: &HostRuntime, bank: &S, ticks: u32) -> io::Result
 // What each part lets in over some ticks, if every part brings all that it may before each tick.
 fn drive<G: Gate>(heap: Global, bank: &mut G, ticks: u32) -> Result<Vec<u64>, AllocError> {
     let parts = bank.count();
-    let mut all: Vec<u64> = Vec::new(heap);
-    for _ in 0..parts {
-        all.push(0)?;
-    }
+    let mut all = vec![in heap; 0_u64; parts as usize]?;
     for _ in 0..ticks {
-        for part in 1..=parts {
-            let taken = offer_all(bank, part);
-            if let Some(sum) = all.get_mut((part - 1) as usize) {
-                *sum = sum.saturating_add(taken);
-            }
+        for (part, sum) in (1..=parts).zip(all.iter_mut()) {
+            *sum = sum.saturating_add(offer_all(bank, part));
         }
         bank.tick();
     }
@@ -97,8 +91,8 @@ fn print_verdict(rt: &HostRuntime, deadline: u32) -> io::Result<()> {
     }
     let mut bounds = [0; 16];
     let count = judged.bounds(&mut bounds);
-    for (place, bound) in bounds.iter().take(count).enumerate() {
-        println!(rt; "task {} bound {bound}", place.saturating_add(1))?;
+    for (task, bound) in (1..=count).zip(&bounds) {
+        println!(rt; "task {task} bound {bound}")?;
     }
     Ok(())
 }
@@ -112,8 +106,7 @@ fn main(rt: HostRuntime) -> io::Result<()> {
     }
     println!(rt; "driven {WINDOW} ticks")?;
     let all = drive(rt.alloc(), &mut bank, WINDOW)?;
-    for part in 1..=bank.count() {
-        let sum = all.get((part - 1) as usize).copied().unwrap_or(0);
+    for (part, sum) in (1..=bank.count()).zip(&all) {
         let demand = bank.demand(part, WINDOW).unwrap_or(0);
         println!(rt; "part {part} let in {sum}, demand: {demand}")?;
     }
