@@ -2,6 +2,8 @@
 // the sheet's plan, and writes one line for each answer to standard output, or with the argument `timeline` a picture of the run.
 #![tactic(auto)]
 
+ghost use Rattle.std.specs.Prelude.{◌≤◌, length};
+
 use calls::{Answer, Call};
 use guarantee::rehearse;
 use listing::{Listing, ROOM, write_listing};
@@ -12,11 +14,11 @@ use schedule::cyclic::Schedule;
 use sheet::read_plan;
 use source::Source;
 use source::pair::Pair;
-use std::alloc::{AllocError, Global};
+use std::alloc::{AllocError, AllocFailed, Global};
 use std::env;
 use std::io::{self, Read, Write};
 use std::process::ExitCode;
-use timeline::draw;
+use timeline::{Log, draw};
 use transcript::{Line, call_of};
 use words::split::first_line;
 
@@ -35,48 +37,42 @@ enum View {
     Timeline,
 }
 
+// Why the lines of a text say no calls.
+#[derive(Debug, Drop)]
+enum CallsError {
+    // So many lines come before the first that is no call.
+    BadLine(usize),
+    Memory(AllocError),
+}
+
+impl<T: Drop> From<AllocFailed<T>> for CallsError {
+    fn from(failed: AllocFailed<T>) -> CallsError {
+        CallsError::Memory(failed.into())
+    }
+}
+
 // How many bytes of the input are the sheet: those before its first empty line, or all.
-fn sheet_length(input: &[u8]) -> usize {
-    let mut fresh = true;
-    for (place, byte) in input.iter().enumerate() {
-        if *byte == b'\n' {
-            if fresh {
-                return place;
-            }
-            fresh = true;
-        } else {
-            fresh = false;
-        }
+fn sheet_length(input: &[u8]) -> usize
+    ensures { result ≤ length input.now }
+{
+    if input.starts_with(b"\n") {
+        return 0;
     }
-    input.len()
+    let before = input.windows(2).position(|pair| pair == b"\n\n".as_slice());
+    before.map_or(input.len(), |place| place + 1)
 }
 
-// How many lines end in some bytes.
-fn lines_in(bytes: &[u8]) -> u64 {
-    let mut lines: u64 = 0;
-    for byte in bytes {
-        if *byte == b'\n' {
-            lines = lines.saturating_add(1);
-        }
-    }
-    lines
-}
-
-// The calls that the lines of a text say, or how many lines come before the first that is none.
-fn calls_of(heap: Global, text: &[u8]) -> Result<Result<Vec<Call>, u64>, AllocError> {
-    let mut calls: Vec<Call> = Vec::new(heap);
+// The calls that the lines of a text say.
+fn calls_of(heap: Global, text: &[u8]) -> Result<Vec<Call>, CallsError> {
+    let mut calls = Vec::new(heap);
     let mut rest = text;
     while !rest.is_empty() {
-        let Some((line, after)) = first_line(rest) else {
-            return Ok(Err(calls.len() as u64));
-        };
-        let Some(call) = call_of(line) else {
-            return Ok(Err(calls.len() as u64));
-        };
+        let (line, after) = first_line(rest).ok_or(CallsError::BadLine(calls.len()))?;
+        let call = call_of(line).ok_or(CallsError::BadLine(calls.len()))?;
         calls.push(call)?;
         rest = after;
     }
-    Ok(Ok(calls))
+    Ok(calls)
 }
 
 // An open plan for a sheet to be read into.
@@ -91,10 +87,7 @@ fn answers_of(
     plan: OpenPlan<Pair<Rack, Schedule>>,
     calls: &[Call],
 ) -> Result<Vec<Answer>, AllocError> {
-    let mut answers: Vec<Answer> = Vec::new(heap);
-    for _ in calls {
-        answers.push(Answer::Done)?;
-    }
+    let mut answers = vec![in heap; Answer::Done; calls.len()]?;
     let _ = rehearse(plan, calls, &mut answers);
     Ok(answers)
 }
@@ -123,7 +116,12 @@ fn print_timeline(
     let part_count = bank.count();
     let task_count = tasks.count();
     let answers = answers_of(rt.alloc(), OpenPlan::with_tasks(bank, tasks), calls)?;
-    let text = draw(rt.alloc(), part_count, task_count, calls, &answers)?;
+    let text = draw(
+        rt.alloc(),
+        part_count,
+        task_count,
+        &Log::new(calls, &answers),
+    )?;
     rt.stdout().write_all(&text)?;
     Ok(())
 }
@@ -133,9 +131,8 @@ fn print_rehearsal(rt: &HostRuntime, view: View, input: &[u8]) -> anyhow::Result
     let Ok(mut plan) = no_plan() else {
         return Ok(());
     };
-    let length = sheet_length(input);
-    let sheet = input.get(..length).unwrap_or(&[]);
-    let text = input.get(length.saturating_add(1)..).unwrap_or(&[]);
+    let (sheet, rest) = input.split_at(sheet_length(input));
+    let text = rest.strip_prefix(b"\n").unwrap_or(rest);
     if let Err(refusal) = read_plan(sheet, &mut plan) {
         let mut buffer = [0; ROOM];
         if let Ok(count) = write_listing(&mut buffer, &Listing::Refused(refusal)) {
@@ -143,16 +140,18 @@ fn print_rehearsal(rt: &HostRuntime, view: View, input: &[u8]) -> anyhow::Result
         }
         return Ok(());
     }
-    match calls_of(rt.alloc(), text)? {
+    match calls_of(rt.alloc(), text) {
         Ok(calls) => match view {
             View::Answers => print_answers(rt, plan, &calls),
             View::Timeline => print_timeline(rt, plan, &calls),
         },
-        Err(before) => {
-            let line = lines_in(sheet).saturating_add(before).saturating_add(2);
+        Err(CallsError::BadLine(before)) => {
+            let lines = sheet.iter().filter(|byte| **byte == b'\n').count();
+            let line = lines.saturating_add(before).saturating_add(2);
             println!(rt; "bad call {line}")?;
             Ok(())
         }
+        Err(CallsError::Memory(error)) => Err(error.into()),
     }
 }
 

@@ -1,14 +1,15 @@
 -- A log that grows by one call.
-use Rattle.std.proofs.Common.{◌≡◌, ℕ, zero, suc, ◌+◌, ◌-◌, ◌<◌, ◌≤◌, min, Bool, List, [], ◌∷◌, ◌++◌, Option, Some, None, true, false, cond, ◌==◌, nat_le, nat_lt, length, get_or, take, sym, ap, ◌∙◌, refl, append_assoc, append-nil, add-one, arith}
+use Rattle.std.proofs.Common.{◌≡◌, ℕ, zero, suc, ◌+◌, ◌-◌, ◌^◌, ◌<◌, ◌≤◌, min, Bool, List, [], ◌∷◌, ◌++◌, Option, Some, None, true, false, cond, ◌==◌, nat_le, length, length-append, get_or, take, sym, ap, ◌∙◌, refl, append_assoc, append-nil, add-one, arith}
 use Rattle.calls.specs.declared.Call.{Call}
 use Rattle.calls.specs.declared.Call.TheVariants.{Offer, Release, Hold, LetGo, End, Tick}
 use Rattle.calls.specs.declared.Got.{Got}
 use Rattle.calls.specs.declared.Got.TheVariants.{Nobody, Part, Task}
 use Rattle.calls.specs.declared.Answer.{Answer}
 use Rattle.calls.specs.declared.Answer.TheVariants.{Done, Refused, Ticked}
-use Rattle.calls.specs.Events.{Event, log_of, let_in, let_in_part}
+use Rattle.calls.specs.Events.{Event, log_of, let_in, part_units}
 use Rattle.calls.specs.Jobs.{Job, job_of, after, carried, ticked, served, older}
-use Rattle.timeline.specs.Rows.{given, given_in, passed, passed_in, ruler_mark, ruler_cell, ruler, added, cells, part_mark, task_mark, part_cell, task_cell, part_row, task_row, left_of}
+use Rattle.timeline.specs.Rows.{given, given_in, passed, passed_in, added, cells, left_of}
+use Rattle.timeline.specs.Tracks.{Numbered, Counted}
 use Rattle.timeline.specs.Steps.{left_after, left_ticked, less_one}
 
 log_more : (calls : List Call) (answers : List Answer) (i : ℕ) (d : Call) (a : Answer) → i < length calls → i < length answers → log_of (take (suc i) calls) (take (suc i) answers) ≡ log_of (take i calls) (take i answers) ++ (record { call = get_or calls i d; answer = get_or answers i a } ∷ [])
@@ -58,7 +59,7 @@ cells_split cell before (b ∷ log) rest =
     let next = cells cell (before ++ (b ∷ [])) log in
     ap (λ t. first ++ t) (cells_split cell (before ++ (b ∷ [])) log rest) ∙ sym (append_assoc first next (cells cell (before ++ (b ∷ []) ++ log) rest)) ∙ ap (λ x. first ++ next ++ cells cell x rest) (append_assoc before (b ∷ []) log)
 
-cells_more : (cell : List Event → Got → ℕ) (before log : List Event) (e : Event) → cells cell before (log ++ (e ∷ [])) ≡ cells cell before log ++ added (cell (before ++ log)) e.call e.answer
+pub cells_more : (cell : List Event → Got → ℕ) (before log : List Event) (e : Event) → cells cell before (log ++ (e ∷ [])) ≡ cells cell before log ++ added (cell (before ++ log)) e.call e.answer
 cells_more cell before log e = cells_split cell before log (e ∷ []) ∙ ap (λ t. cells cell before log ++ t) (append-nil (added (cell (before ++ log)) e.call e.answer))
 
 left_cond : (b : Bool) (x y : Option Job) → left_of (cond b x y) ≡ cond b (left_of x) (left_of y)
@@ -98,20 +99,17 @@ left_of_after i job Tick (Ticked got) = left_of_ticked i job got
 abbrev pub log_to : List Call → List Answer → ℕ → List Event
 log_to calls answers n = log_of (take n calls) (take n answers)
 
--- one cell more of the ruler
-pub ruler_more : (log : List Event) (e : Event) (row next : List ℕ) (ticks : ℕ) → row ≡ ruler log → ticks ≡ passed log → next ≡ row ++ added (λ got. ruler_mark (ticks + 1)) e.call e.answer → next ≡ ruler (log ++ (e ∷ []))
-ruler_more log e row next ticks rows ts more =
-    more ∙ (λ j. rows j ++ added (λ got. ruler_mark (ts j + 1)) e.call e.answer) ∙ sym (cells_more ruler_cell [] log e)
+-- it has at most as many calls
+pub length-log_to : (calls : List Call) (answers : List Answer) (n : ℕ) → length (log_to calls answers n) ≤ n
+length-log_to [] answers zero = omega arith
+length-log_to [] answers (suc n) = omega arith
+length-log_to (c ∷ calls) answers zero = omega arith
+length-log_to (c ∷ calls) [] (suc n) = omega arith
+length-log_to (c ∷ calls) (a ∷ answers) (suc n) = omega (arith, length-log_to calls answers n)
 
--- one cell more of the row of part k
-pub part_row_more : (k : ℕ) (log : List Event) (e : Event) (row next : List ℕ) (units got : ℕ) → row ≡ part_row k log → units ≡ let_in_part k log → got ≡ given k log → next ≡ row ++ added (part_mark k (nat_lt got units)) e.call e.answer → next ≡ part_row k (log ++ (e ∷ []))
-part_row_more k log e row next units got rows us gs more =
-    more ∙ (λ j. rows j ++ added (part_mark k (nat_lt (gs j) (us j))) e.call e.answer) ∙ sym (cells_more (part_cell k) [] log e)
-
--- and of that of task i
-pub task_row_more : (i : ℕ) (log : List Event) (e : Event) (row next : List ℕ) (left : Option ℕ) → row ≡ task_row i log → left ≡ left_of (job_of i log) → next ≡ row ++ added (task_mark i left) e.call e.answer → next ≡ task_row i (log ++ (e ∷ []))
-task_row_more i log e row next left rows ls more =
-    more ∙ (λ j. rows j ++ added (task_mark i (ls j)) e.call e.answer) ∙ sym (cells_more (task_cell i) [] log e)
+-- and one call more
+pub log_to_more : (calls : List Call) (answers : List Answer) (n : ℕ) (e : Event) → n < length calls → n < length answers → e.call ≡ get_or calls n (Offer 0 0) → e.answer ≡ get_or answers n Done → log_to calls answers n ++ (e ∷ []) ≡ log_to calls answers (n + 1)
+log_to_more calls answers n e h k call answer = (λ i. log_to calls answers n ++ (record { call = call i; answer = answer i } ∷ [])) ∙ sym (log_of_more calls answers n (Offer 0 0) Done h k)
 
 -- a call is one tick at the most
 pub passed_one : (call : Call) (answer : Answer) → passed_in call answer ≤ 1
@@ -123,3 +121,27 @@ passed_one (End i) answer = omega arith
 passed_one Tick Done = omega arith
 passed_one Tick (Refused e) = omega arith
 passed_one Tick (Ticked got) = omega arith
+
+-- a call more for the ruler, for a part and for a task
+pub numbered_more : (log : List Event) (e : Event) (next more : ℕ) → Numbered log next → more ≡ passed_in e.call e.answer → Numbered (log ++ (e ∷ [])) (next + more)
+numbered_more log e next more is m = record {
+  after = omega (arith, is.after, m, passed_more log e);
+  few = omega (arith, is.few, m, passed_one e.call e.answer, length-append log (e ∷ []));
+}
+
+pub numbered_same : (log : List Event) (e : Event) (next : ℕ) → Numbered log next → 0 ≡ passed_in e.call e.answer → Numbered (log ++ (e ∷ [])) next
+numbered_same log e next is m = record {
+  after = omega (arith, is.after, m, passed_more log e);
+  few = omega (arith, is.few, length-append log (e ∷ []));
+}
+
+pub counted_more : (k : ℕ) (log : List Event) (e : Event) (units got u g : ℕ) → Counted k log units got → u ≡ part_units k e.call e.answer → g ≡ given_in k e.call e.answer → u < 2 ^ 64 → g < 2 ^ 64 → Counted k (log ++ (e ∷ [])) (units + u) (got + g)
+counted_more k log e units got u g is us gs a b = record {
+  let_in = omega (arith, is.let_in, us, let_in_more (part_units k) log e);
+  given = omega (arith, is.given, gs, given_more k log e);
+  few = omega (arith, is.few, length-append log (e ∷ []));
+  fewer = omega (arith, is.fewer, length-append log (e ∷ []));
+}
+
+pub left_more : (i : ℕ) (log : List Event) (e : Event) (left next : Option ℕ) → left ≡ left_of (job_of i log) → next ≡ left_after i left e.call e.answer → next ≡ left_of (job_of i (log ++ (e ∷ [])))
+left_more i log e left next is more = more ∙ ap (λ l. left_after i l e.call e.answer) is ∙ sym (left_of_after i (job_of i log) e.call e.answer) ∙ ap left_of (sym (carried_more i None log e))

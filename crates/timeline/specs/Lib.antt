@@ -1,3 +1,4 @@
 pub mod Rows
 pub mod Steps
 pub mod Pictures
+pub mod Tracks
