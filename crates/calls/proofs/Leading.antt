@@ -1,5 +1,6 @@
 -- From the start of a run on: every state is safe, and has the jobs that the log shows.
 use Rattle.std.proofs.Common.{◌≡◌, ℕ, ◌+◌, ◌<◌, ◌≤◌, List, [], ◌∷◌, ◌++◌, Option, Some, None, sym, refl, subst, arith}
+use Rattle.std.specs.Option.{IfSome}
 use Rattle.calls.specs.declared.Call.{Call}
 use Rattle.calls.specs.declared.Call.TheVariants.{Offer, Release, Hold, LetGo, End, Tick}
 use Rattle.calls.specs.declared.Got.TheVariants.{Task}
@@ -64,7 +65,7 @@ never_late p s t log ok fresh fits leads = record { pending = pending; ended = e
         let soon : q.0.age i + 1 ≤ p.bound i = in_time p q.0 ok here i task.0 task.1 has.1 in
         (omega (arith, has.0, has.1), omega (arith, has.2, soon))
 
-    ended : (before rest : List Event) (i a : ℕ) → log ≡ before ++ (record { call = Tick; answer = answers.Ticked (Task i a) } ∷ rest) → (a ≡ end_age (job_of i before)) × (a ≤ p.bound i)
+    ended : (before rest : List Event) (i : ℕ) (a : Option ℕ) → log ≡ before ++ (record { call = Tick; answer = answers.Ticked (Task i a) } ∷ rest) → (a ≡ end_age (job_of i before)) × IfSome a (λ age. age ≤ p.bound i)
     ended before rest i a e =
         let q = parted p s t before (record { call = Tick; answer = answers.Ticked (Task i a) } ∷ rest) (subst (λ x. Leads p s x t) e leads) in
         told_in_time p q.0 q.2.0 i a (job_of i before) ok (safe_along p s q.0 before ok safe q.1) q.2.1 (shown q.0 before i q.1)

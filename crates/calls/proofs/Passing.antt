@@ -1,5 +1,5 @@
 -- A tick keeps a run safe.
-use Rattle.std.proofs.Common.{◌≡◌, ℕ, ◌+◌, ◌-◌, ◌<◌, ◌≤◌, min, cond, Bool, true, false, ◌&&◌, nat_le, ltb, ◌≢◌, ◌⊎◌, inl, inr, refl, ap, ◌∙◌, arith}
+use Rattle.std.proofs.Common.{◌≡◌, ℕ, ◌+◌, ◌-◌, ◌<◌, ◌≤◌, min, cond, Bool, true, false, ◌&&◌, nat_le, ltb, ◌≢◌, ◌⊎◌, inl, inr, Option, refl, ap, ◌∙◌, arith}
 use Rattle.std.proofs.lemmas.Bool.Decides.{nat_tests}
 use Rattle.std.proofs.lemmas.Bool.{cases_eq, cases_lt}
 use Rattle.calls.specs.declared.Got.{Got}
@@ -24,7 +24,7 @@ below_one i h x u a b c = grind (arith, nat_tests)
 goes_on : (x : ℕ) (b : Bool) → (nat_le 1 x && b) ≡ true → 1 ≤ x
 goes_on x b e = grind (arith, nat_tests)
 
-own_unit : (j a : ℕ) → task_unit (Task j a) j ≡ 1
+own_unit : (j : ℕ) (a : Option ℕ) → task_unit (Task j a) j ≡ 1
 own_unit j a = grind (arith, nat_tests)
 
 own_part : (k : ℕ) → part_unit (Part k) k ≡ 1
@@ -68,7 +68,7 @@ module _ (p : Plan) (s t : State) (got : Got) (h : Passed p s got t) where
   below_passes i = omega (arith, below_kept i, below_fewer i s.holder s.held (task_unit got s.holder))
 
 -- a task that gets the unit has a job
-pub has_job : (p : Plan) (s : State) (i a : ℕ) → Sane p s → Due p s (Task i a) → (i ≤ p.tasks) × (1 ≤ s.left i)
+pub has_job : (p : Plan) (s : State) (i : ℕ) (a : Option ℕ) → Sane p s → Due p s (Task i a) → (i ≤ p.tasks) × (1 ≤ s.left i)
 has_job p s i a sane due = go due.2 sane.hold
   where
     go : (s.holder ≡ i) ⊎ ((s.holder ≡ 0) × (i ≤ p.tasks) × (1 ≤ s.left i) × ((j : ℕ) → 1 ≤ j → j < i → s.left j ≡ 0)) → Holding p s.left s.holder s.held → (i ≤ p.tasks) × (1 ≤ s.left i)
@@ -91,7 +91,7 @@ module _ (p : Plan) (s t : State) (k : ℕ) (h : Passed p s (Part k) t) where
           omega arith
 
 -- a task that gets the unit
-module _ (p : Plan) (s t : State) (j a : ℕ) (sane : Sane p s) (h : Passed p s (Task j a) t) where
+module _ (p : Plan) (s t : State) (j : ℕ) (a : Option ℕ) (sane : Sane p s) (h : Passed p s (Task j a) t) where
   pub ahead_served : (i m : ℕ) → j ≤ i → 1 ≤ m → ahead t i (m - 1) + 1 ≤ ahead s i m
   ahead_served i m l c =
       upto_less (λ q. t.left q + t.tasks q (m - 1)) (λ q. s.left q + s.tasks q m) i j h.due.1 l (λ q b d. ahead_point p s t (Task j a) h q m c) here

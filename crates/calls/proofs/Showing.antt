@@ -1,5 +1,6 @@
 -- The job that a log shows is the one that the state has.
-use Rattle.std.proofs.Common.{◌≡◌, ℕ, ◌+◌, ◌-◌, ◌<◌, ◌≤◌, min, cond, Bool, true, false, nat_le, Option, Some, None, sym, refl, ap, ◌∙◌, arith}
+use Rattle.std.proofs.Common.{◌≡◌, ℕ, ◌+◌, ◌-◌, ◌<◌, ◌≤◌, min, cond, Bool, true, false, nat_le, Option, Some, None, sym, refl, ap, ◌∙◌, subst, arith}
+use Rattle.std.specs.Option.{IfSome}
 use Rattle.std.specs.Prelude.{◌==◌}
 use Rattle.std.proofs.lemmas.Bool.Decides.{nat_tests}
 use Rattle.calls.specs.declared.Call.{Call}
@@ -95,7 +96,7 @@ shown_after p s t (End k) (answers.Refused e) i job ok safe h shown = shown_rest
 shown_after p s t c a i job ok safe h shown = absurd h
 
 -- a tick tells the age of the job that it ended, and that is within the bound
-pub told_in_time : (p : Plan) (s t : State) (i a : ℕ) (job : Option Job) → Accepted p → Safe p s → Passed p s (Task i a) t → Shown job (s.left i) (s.age i) → (a ≡ end_age job) × (a ≤ p.bound i)
+pub told_in_time : (p : Plan) (s t : State) (i : ℕ) (a : Option ℕ) (job : Option Job) → Accepted p → Safe p s → Passed p s (Task i a) t → Shown job (s.left i) (s.age i) → (a ≡ end_age job) × IfSome a (λ age. age ≤ p.bound i)
 told_in_time p s t i a job ok safe h shown = (exact job shown, within)
   where
     some : 1 ≤ s.left i
@@ -104,12 +105,16 @@ told_in_time p s t i a job ok safe h shown = (exact job shown, within)
     old : min (s.age i + 1) p.cap ≡ s.age i + 1
     old = uncapped p s ok safe i some
 
-    told : a ≡ cond (nat_le (s.left i) 1) (s.age i + 1) 0
-    told = h.told ∙ ap (λ x. cond (nat_le (s.left i) 1) x 0) old
+    told : a ≡ cond (nat_le (s.left i) 1) (Some (s.age i + 1)) None
+    told = h.told ∙ ap (λ x. cond (nat_le (s.left i) 1) (Some x) None) old
 
     exact : (job : Option Job) → Shown job (s.left i) (s.age i) → a ≡ end_age job
     exact None e = absurd (omega (arith, some))
-    exact (Some job) e = told ∙ (λ x. cond (nat_le (sym e.0 x) 1) (sym e.2 x + 1) 0)
+    exact (Some job) e = told ∙ (λ x. cond (nat_le (sym e.0 x) 1) (Some (sym e.2 x + 1)) None)
 
-    within : a ≤ p.bound i
-    within = let soon : s.age i + 1 ≤ p.bound i = in_time p s ok safe i h.due.1 (has_job p s i a safe.sane h.due).0 some in let x = told in grind (arith, nat_tests)
+    bounded : (b : Bool) → IfSome (cond b (Some (s.age i + 1)) None) (λ age. age ≤ p.bound i)
+    bounded true = in_time p s ok safe i h.due.1 (has_job p s i a safe.sane h.due).0 some
+    bounded false = tt
+
+    within : IfSome a (λ age. age ≤ p.bound i)
+    within = subst (λ x. IfSome x (λ age. age ≤ p.bound i)) (sym told) (bounded (nat_le (s.left i) 1))

@@ -46,7 +46,7 @@ carried i job (e ∷ log) = carried i (after i job e.call e.answer) log
 abbrev pub job_of : ℕ → List Event → Option Job
 job_of i log = carried i None log
 
--- the age at which a job ends that gets a unit in a tick, this tick included: 0 if that is not its last unit
-abbrev pub end_age : Option Job → ℕ
-end_age None = 0
-end_age (Some j) = cond (nat_le j.left 1) (j.age + 1) 0
+-- the age at which a job ends that gets a unit in a tick, this tick included: none if that is not its last unit
+abbrev pub end_age : Option Job → Option ℕ
+end_age None = None
+end_age (Some j) = cond (nat_le j.left 1) (Some (j.age + 1)) None

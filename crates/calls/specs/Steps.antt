@@ -1,5 +1,5 @@
 -- What each call of a run of an accepted plan makes of its state.
-use Rattle.std.specs.Prelude.{◌≡◌, ℕ, ◌+◌, ◌-◌, ◌<◌, ◌≤◌, min, cond, ◌&&◌, ◌⊎◌, List, [], ◌∷◌, ◌==◌, nat_le}
+use Rattle.std.specs.Prelude.{◌≡◌, ℕ, ◌+◌, ◌-◌, ◌<◌, ◌≤◌, min, cond, ◌&&◌, ◌⊎◌, Some, None, List, [], ◌∷◌, ◌==◌, nat_le}
 use Rattle.source.specs.Facts.{Taken, Ticked}
 use Rattle.calls.specs.declared.Call.{Call}
 use Rattle.calls.specs.declared.Call.TheVariants.{Offer, Release, Hold, LetGo, End, Tick}
@@ -74,9 +74,9 @@ abbrev pub task_unit : Got → ℕ → ℕ
 task_unit (Task j a) i = cond (i == j) 1 0
 task_unit _ i = 0
 
--- the age that the answer tells: that of the job that ended with the unit, this tick included, or 0
+-- the age that the answer tells: that of the job that ended with the unit, this tick included, or none
 abbrev pub AgeTold : Plan → State → Got → Type 0
-AgeTold p s (Task i a) = a ≡ cond (nat_le (s.left i) 1) (min (s.age i + 1) p.cap) 0
+AgeTold p s (Task i a) = a ≡ cond (nat_le (s.left i) 1) (Some (min (s.age i + 1) p.cap)) None
 AgeTold p s _ = Unit
 
 -- the units of its hold that the holder keeps: one fewer if it got the unit

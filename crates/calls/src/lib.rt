@@ -3,7 +3,8 @@
 // Parts of the bank and tasks are numbered from 1.
 #![tactic(auto)]
 
-ghost use Rattle.std.specs.Prelude.{◌≡◌};
+ghost use Rattle.std.specs.Prelude.{◌≡◌, MatchResult};
+ghost use Rattle.calls.specs.declared.Answer.TheVariants.{Done, Refused, Ticked};
 ghost use Rattle.calls.specs.Told.{told};
 ghost use Rattle.calls.specs.Guarantee.{Guaranteed};
 
@@ -31,8 +32,8 @@ pub enum Got {
     Nobody,
     // The part with this number.
     Part(u32),
-    // The task with this number, and the age of its job if that ended with the unit, or 0.
-    Task(u32, u32),
+    // The task with this number, and the age of its job if that ended with the unit.
+    Task(u32, Option<u32>),
 }
 
 // The answer to a call.
@@ -46,8 +47,26 @@ pub enum Answer {
     Ticked(Got),
 }
 
+// The answer to a call that is no tick, by what came of it.
+impl From<Result<(), Refusal>> for Answer {
+    ghost from_gives = { λ came answer. MatchResult came (λ _. answer ≡ Done) (λ refusal. answer ≡ Refused refusal) };
+
+    fn from(came: Result<(), Refusal>) -> Answer {
+        came.map_or_else(Answer::Refused, |()| Answer::Done)
+    }
+}
+
+// The answer to a tick.
+impl From<Result<Got, Refusal>> for Answer {
+    ghost from_gives = { λ came answer. MatchResult came (λ got. answer ≡ Ticked got) (λ refusal. answer ≡ Refused refusal) };
+
+    fn from(came: Result<Got, Refusal>) -> Answer {
+        came.map_or_else(Answer::Refused, Answer::Ticked)
+    }
+}
+
 impl Got {
-    // 0 if nobody got the unit, 1 if a part did, 2 if a task did.
+    // 0 if nobody got the unit, 1 if a part did, 2 if a task did: a number, as the answer to a tick is defined in numbers.
     pub fn who(self) -> u32
         ensures { result ≡ (told self).who }
     {
@@ -74,9 +93,8 @@ impl Got {
         ensures { result ≡ (told self).age }
     {
         match self {
-            Got::Nobody => 0,
-            Got::Part(_) => 0,
-            Got::Task(_, age) => age,
+            Got::Nobody | Got::Part(_) => 0,
+            Got::Task(_, age) => age.unwrap_or(0),
         }
     }
 }

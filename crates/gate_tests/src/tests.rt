@@ -441,8 +441,8 @@ fn rehearsed(rt: HostRuntime) -> Result<(), Fail> {
         Answer::Ticked(Got::Part(1)),
         Answer::Ticked(Got::Part(1)),
         Answer::Ticked(Got::Part(2)),
-        Answer::Ticked(Got::Task(1, 0)),
-        Answer::Ticked(Got::Task(1, 5)),
+        Answer::Ticked(Got::Task(1, None)),
+        Answer::Ticked(Got::Task(1, Some(5))),
         Answer::Ticked(Got::Nobody),
         Answer::Done,
     ];

@@ -1,5 +1,5 @@
 -- A tick of a run is a tick of the model.
-use Rattle.std.proofs.Common.{◌≡◌, ℕ, ◌+◌, ◌-◌, ◌<◌, ◌≤◌, min, Bool, true, false, cond, eqb, leb, ◌&&◌, List, map, length, get_or, ◌⊎◌, sym, refl, ap, ◌∙◌, subst, inl, inr, arith, length-set}
+use Rattle.std.proofs.Common.{◌≡◌, ℕ, ◌+◌, ◌-◌, ◌<◌, ◌≤◌, min, Bool, true, false, cond, eqb, leb, ◌&&◌, List, map, length, get_or, ◌⊎◌, Option, sym, refl, ap, ◌∙◌, subst, inl, inr, arith, length-set}
 use Rattle.std.proofs.lemmas.Bool.{cond-true, cond-false, cond_both, eq-eqb, ne_eqb, leb-true, leb-false, cases_eq}
 use Rattle.std.proofs.Math.ListN.{get_or-map}
 use Rattle.std.proofs.lemmas.List.{length-map}
@@ -88,7 +88,7 @@ gave_part s k some within =
       held = omega arith;
     }
 
-gave_task : (s : State) (i a : ℕ) → 1 ≤ i → i ≤ length s.jobs → Gave s (task_served s i) (Task i a)
+gave_task : (s : State) (i : ℕ) (a : Option ℕ) → 1 ≤ i → i ≤ length s.jobs → Gave s (task_served s i) (Task i a)
 gave_task s i a some within =
     let job = get_or s.jobs (i - 1) no_job in
     record {

@@ -34,6 +34,7 @@ pub fn rehearse<G: Gate>(plan: OpenPlan<G>, calls: &[Call], answers: &mut [Answe
 {
     let mut run = Run::start(plan.judge());
     let count = calls.len().min(answers.len());
+    // by place: after `answers.iter_mut().zip(calls)` a proof knows nothing of what stands in the answers
     for place in 0..count {
         answers[place] = make(&mut run, calls[place]);
     }

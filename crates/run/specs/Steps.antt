@@ -1,5 +1,5 @@
 -- What each call makes of the state of a run, where it is not refused.
-use Rattle.std.specs.Prelude.{ℕ, ◌+◌, ◌-◌, ◌≤◌, min, cond, ◌&&◌, List, map, nat_eq, nat_le, slice_index_or, slice_set}
+use Rattle.std.specs.Prelude.{ℕ, ◌+◌, ◌-◌, ◌≤◌, min, cond, ◌&&◌, List, map, Option, Some, None, nat_eq, nat_le, slice_index_or, slice_set}
 use Rattle.calls.specs.declared.Got.{Got}
 use Rattle.calls.specs.declared.Got.TheVariants.{Nobody, Part, Task}
 use Rattle.run.specs.States.{no_job, backlog_of, left_of, age_of, first_at}
@@ -30,9 +30,9 @@ removed s i = record { backlogs = s.backlogs; jobs = slice_set s.jobs (i - 1) no
 abbrev pub ended : State → ℕ → State
 ended s i = cond (nat_eq s.holder i) (let_go (removed s i)) (removed s i)
 
--- the age that is told of a task that gets a unit: that of its job, this tick included, if the job ends with the unit, or 0
-abbrev pub told_age : List Job → ℕ → ℕ
-told_age jobs i = cond (nat_le (left_of jobs i) 1) (min (age_of jobs i + 1) 4294967295) 0
+-- the age that is told of a task that gets a unit: that of its job, this tick included, if the job ends with the unit, or none
+abbrev pub told_age : List Job → ℕ → Option ℕ
+told_age jobs i = cond (nat_le (left_of jobs i) 1) (Some (min (age_of jobs i + 1) 4294967295)) None
 
 -- the task that goes before the other tasks of n: the holder, else the highest with a pending job, or 0 if there is none
 abbrev pub foremost : ℕ → State → ℕ

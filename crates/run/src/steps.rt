@@ -133,9 +133,9 @@ fn due_task(jobs: &[Job], task: u32) -> Got
     }
     let job = jobs[(task - 1) as usize];
     if job.left <= 1 {
-        Got::Task(task, job.age.saturating_add(1))
+        Got::Task(task, Some(job.age.saturating_add(1)))
     } else {
-        Got::Task(task, 0)
+        Got::Task(task, None)
     }
 }
 

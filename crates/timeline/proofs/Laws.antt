@@ -1,5 +1,5 @@
 -- The law of a row.
-use Rattle.std.proofs.Common.{◌≡◌, ℕ, ◌+◌, List, [], ◌∷◌, ◌++◌, Option, Some, None, cond, ◌==◌, length, get_or, ap, ◌∙◌, refl, length-append, arith}
+use Rattle.std.proofs.Common.{◌≡◌, ℕ, ◌+◌, List, [], ◌∷◌, ◌++◌, Option, Some, None, is_some, cond, ◌==◌, length, get_or, ap, ◌∙◌, refl, length-append, arith}
 use Rattle.std.proofs.lemmas.Bool.Decides.{nat_tests}
 use Rattle.std.proofs.lemmas.List.{get_or-append-add}
 use Rattle.calls.specs.declared.Call.{Call}
@@ -42,8 +42,8 @@ row_law cell log row is = record {
   each = λ before rest got cut. ap (λ r. get_or r (passed before) 0) (is ∙ ap (cells cell []) cut) ∙ at_tick cell before rest got;
 }
 
--- a task that gets a unit: the age at which its job ends is 0 just if that is not the last unit
-task_cell_of : (i : ℕ) (job : Option Job) (a : ℕ) → a ≡ end_age job → task_mark i (left_of job) (Task i a) ≡ cond (a == 0) 35 33
+-- a task that gets a unit: its job ends at some age just if that is the last unit
+task_cell_of : (i : ℕ) (job : Option Job) (a : Option ℕ) → a ≡ end_age job → task_mark i (left_of job) (Task i a) ≡ cond (is_some a) 33 35
 task_cell_of i None a is = grind (arith, nat_tests)
 task_cell_of i (Some j) a is = grind (arith, nat_tests)
 

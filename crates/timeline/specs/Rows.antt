@@ -1,5 +1,5 @@
 -- The rows of a timeline: one cell for each tick that passed, told by what the log of the run says before it.
-use Rattle.std.specs.Prelude.{◌≡◌, ℕ, ◌+◌, ◌/◌, ◌%◌, Bool, false, cond, List, [], ◌∷◌, ◌++◌, Some, None, Option, ◌==◌, nat_le, nat_lt, length, slice_index}
+use Rattle.std.specs.Prelude.{◌≡◌, ℕ, ◌+◌, ◌/◌, ◌%◌, Bool, false, cond, List, [], ◌∷◌, ◌++◌, Some, None, Option, is_some, ◌==◌, nat_le, nat_lt, length, slice_index}
 use Rattle.calls.specs.declared.Call.{Call}
 use Rattle.calls.specs.declared.Call.TheVariants.{Tick}
 use Rattle.calls.specs.declared.Got.{Got}
@@ -102,4 +102,4 @@ pub record RowOf (cell : List Event → Got → ℕ) (log : List Event) (row : L
 -- In the log of a run that is never late, the row of task i has ! just where an answer tells the age of a job that ended, and #
 -- where the task got a unit and the answer tells none.
 abbrev pub ShowsEnds : ℕ → List Event → List ℕ → Type 0
-ShowsEnds i log row = (bound : ℕ → ℕ) → NeverLate bound log → (before rest : List Event) (a : ℕ) → log ≡ before ++ (record { call = Tick; answer = Ticked (Task i a) } ∷ rest) → slice_index row (passed before) ≡ cond (a == 0) 35 33
+ShowsEnds i log row = (bound : ℕ → ℕ) → NeverLate bound log → (before rest : List Event) (a : Option ℕ) → log ≡ before ++ (record { call = Tick; answer = Ticked (Task i a) } ∷ rest) → slice_index row (passed before) ≡ cond (is_some a) 33 35

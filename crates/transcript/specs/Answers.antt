@@ -1,5 +1,5 @@
 -- The line of an answer, of which the line feed is left out.
-use Rattle.std.specs.Prelude.{ℕ, cond, List, ◌++◌, codes, decimal, ◌==◌}
+use Rattle.std.specs.Prelude.{ℕ, List, ◌++◌, codes, decimal, Option, Some, None}
 use Rattle.refusal.specs.Table.{row}
 use Rattle.refusal.specs.declared.Refusal.{Refusal}
 use Rattle.listing.specs.Texts.{layer_name}
@@ -12,9 +12,10 @@ use Rattle.calls.specs.declared.Got.TheVariants.{Nobody, Part, Task}
 abbrev pub refusal_text : Refusal → List ℕ
 refusal_text r = codes "refused " ++ (decimal (row r.fault).number ++ (codes " " ++ (layer_name (row r.fault).layer ++ (codes " " ++ (decimal r.line ++ (codes " task " ++ decimal r.task))))))
 
--- that a job ended, if its age is not 0
-abbrev pub ended_text : ℕ → List ℕ
-ended_text age = cond (age == 0) (codes "") (codes " ended " ++ decimal age)
+-- that a job ended, if one did, and its age
+abbrev pub ended_text : Option ℕ → List ℕ
+ended_text None = codes ""
+ended_text (Some age) = codes " ended " ++ decimal age
 
 -- who got the unit of a tick
 abbrev pub got_text : Got → List ℕ

@@ -42,7 +42,7 @@ fn write_got<W: fmt::Write>(f: &mut fmt::Formatter<W>, got: Got) -> fmt::Result
     match got {
         Got::Nobody => write!(f, "tick nobody"),
         Got::Part(part) => write!(f, "tick part {part}"),
-        Got::Task(task, 0) => write!(f, "tick task {task}"),
-        Got::Task(task, age) => write!(f, "tick task {task} ended {age}"),
+        Got::Task(task, None) => write!(f, "tick task {task}"),
+        Got::Task(task, Some(age)) => write!(f, "tick task {task} ended {age}"),
     }
 }

@@ -71,8 +71,8 @@ fn answers(rt: HostRuntime) -> Result<(), Fail> {
         (Answer::Done, "done"),
         (Answer::Ticked(Got::Nobody), "tick nobody"),
         (Answer::Ticked(Got::Part(1)), "tick part 1"),
-        (Answer::Ticked(Got::Task(2, 0)), "tick task 2"),
-        (Answer::Ticked(Got::Task(2, 7)), "tick task 2 ended 7"),
+        (Answer::Ticked(Got::Task(2, None)), "tick task 2"),
+        (Answer::Ticked(Got::Task(2, Some(7))), "tick task 2 ended 7"),
         (
             Answer::Refused(Refusal::new(Fault::JobPending, 0, 3)),
             "refused 17 run 0 task 3",
