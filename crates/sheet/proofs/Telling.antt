@@ -1,14 +1,7 @@
 -- What is told of parts and tasks, one after another.
-use Rattle.std.proofs.Common.{◌≡◌, ℕ, zero, suc, ◌+◌, ◌-◌, ◌<◌, cond, ltb, List, ◌++◌, length, get_or, set, Some, None, Ok, Err, Option, Result, unwrap_or, sym, refl, ap, ◌∙◌, subst, arith}
-use Rattle.std.proofs.lemmas.Bool.{lt-ltb, le-ltb, cond-true, cond-false}
-use Rattle.source.specs.Facts.{is_part}
-use Rattle.source.proofs.Parts.{part_from}
+use Rattle.std.proofs.Common.{◌≡◌, ℕ, zero, suc, ◌+◌, ◌<◌, List, ◌++◌, get_or, Ok, Err, Result, sym, refl, ap, ◌∙◌, subst, arith}
 use Rattle.paced.specs.Loads.{row_load}
 use Rattle.paced.specs.Tables.{row_at}
-use Rattle.cycles.specs.Round.{sum}
-use Rattle.loads.specs.Share.{load_of}
-use Rattle.schedule.specs.Phases.{length_of}
-use Rattle.plan.proofs.Bounds.{bound_more}
 use Rattle.plan.proofs.Once.{once}
 use Rattle.plan.specs.Judged.{bounds_told}
 use Rattle.refusal.specs.declared.Refusal.{Refusal}
@@ -24,23 +17,6 @@ use Rattle.sheet.specs.Reading.{Sheet}
 pub numbered_same : {X : Type 0} (line : ℕ → X → List ℕ) (f g : ℕ → X) (n : ℕ) → ((k : ℕ) → k < n → f k ≡ g k) → numbered line f n ≡ numbered line g n
 numbered_same line f g zero e = refl
 numbered_same line f g (suc n) e = let below = numbered_same line f g n (λ k l. e k (omega arith)) in let here = e n (omega arith) in λ i. below i ++ line (n + 1) (here i)
-
-module _ (p : Plan) where
-  -- the answer to the question for the load of the interrupt at place k
-  pub load_asked : (k : ℕ) (o : Option ℕ) → k < p.irqs → o ≡ cond (is_part p.irqs (k + 1)) (Some (row_load (row_at p.irq_rows (k + 1 - 1)))) None → unwrap_or o 0 ≡ part_load p k
-  load_asked k o h e =
-      let back : k + 1 - 1 ≡ k = omega arith in
-      ap (λ a. unwrap_or a 0) (e ∙ ap (λ b. cond b (Some (row_load (row_at p.irq_rows (k + 1 - 1)))) None) (part_from p.irqs (k + 1) (omega arith) (omega arith)))
-      ∙ ap (λ j. row_load (row_at p.irq_rows j)) back
-      ∙ sym (cond-true (ltb k p.irqs) (row_load (row_at p.irq_rows k)) (load_of (sum (length_of p.slots) p.pairs) p.cycle) (lt-ltb k p.irqs h))
-
-  -- the part behind the interrupts is the schedule
-  pub schedule_load : load_of (sum (length_of p.slots) p.pairs) p.cycle ≡ part_load p p.irqs
-  schedule_load = sym (cond-false (ltb p.irqs p.irqs) (row_load (row_at p.irq_rows p.irqs)) (load_of (sum (length_of p.slots) p.pairs) p.cycle) (le-ltb p.irqs p.irqs (omega arith)))
-
-  -- one load more, at the place m, which is n
-  pub load_more : (loads loads' : List ℕ) (m n x : ℕ) → m ≡ n → n < length loads → loads' ≡ set loads m x → x ≡ part_load p n → ((k : ℕ) → k < n → get_or loads k 0 ≡ part_load p k) → (k : ℕ) → k < n + 1 → get_or loads' k 0 ≡ part_load p k
-  load_more loads loads' m n x same room e here so_far k h = ap (λ xs. get_or xs k 0) (e ∙ ap (λ j. set loads j x) same) ∙ bound_more (λ i w. w ≡ part_load p i) loads n x room so_far here k h
 
 -- the same bounds give the same text
 same_bounds : (p : Plan) (list bounds : List ℕ) → ((i : ℕ) → i < p.tasks → get_or list i 0 ≡ get_or bounds i 0) → accepted_plan p list ≡ accepted_plan p bounds

@@ -48,9 +48,8 @@ fn part_marks(draft: &Draft) -> Marks
     ensures tasks { result.task_count ≡ 0 }
 {
     let mut marks = Marks::new();
-    // No `1..=count`: the last step of such a loop is a branch of its own behind it, and would be proved twice.
-    for place in 0..draft.rack.count() {
-        let _ = marks.add_part(draft.rack.load(place + 1).unwrap_or(0));
+    for part in 1..=draft.rack.count() {
+        let _ = marks.add_part(draft.rack.load(part).unwrap_or(0));
     }
     let _ = marks.add_part(draft.schedule.load());
     marks

@@ -1,10 +1,10 @@
 use Rattle.std.proofs.Common.{◌+◌, ◌≤◌, length, Some, Err, sym, ap, ◌∙◌, arith}
 use Rattle.std.proofs.lemmas.Result.{err_from_is_err_and}
-use Rattle.std.proofs.lemmas.Bool.{eqb-true, eqb-false}
+use Rattle.std.proofs.lemmas.Bool.{eqb-false}
 use Rattle.words.specs.Split.{pieces}
 use Rattle.sheet.specs.Reading.{and_then, read_on}
 use Rattle.sheet.specs.Views.{view}
-use Rattle.sheet.proofs.Lining.{line_first, line_open, at_end}
+use Rattle.sheet.proofs.Lining.{line_first, line_open}
 use Rattle.sheet.proofs.reading.read_on.Goals as goal
 
 pub returns-in_default : goal.returns-in_default
@@ -40,9 +40,3 @@ loop-rest-preserved c =
           ∙ sym (line_first c.loop-rest.lines (Some (view c.loop-rest.draft)) rest c.in-Some.bytes.now after line.0 line.1)
           ∙ c.loop-rest.invariant.1,
     )
-
-pub returns : goal.returns
-returns c =
-    let rest = c.loop-rest.rest.now in
-    sym c.loop-rest.invariant.1
-    ∙ at_end c.loop-rest.lines (Some (view c.loop-rest.draft)) rest (eqb-true (length rest) 0 (sym c.loop-rest-test.ensures))
