@@ -49,9 +49,10 @@ pub fn replay(
     ensures explained { OnOk result (AllAnswered period jitter costs.now steps.now taken.new) }
 {
     let mut part = Paced::new(period, jitter, costs)?;
+    // a loop over an adapter of `iter_mut` tells a proof nothing of what it writes, so the answers go by place
     let count = steps.len().min(taken.len());
-    for place in 0..count {
-        taken[place] = make(&mut part, steps[place]);
+    for (place, step) in steps[..count].iter().enumerate() {
+        taken[place] = make(&mut part, *step);
     }
     Ok(part)
 }

@@ -1,27 +1,10 @@
 -- What a paced part is made of.
-use Rattle.std.proofs.Common.{◌≡◌, ℕ, zero, suc, ◌+◌, ◌-◌, ◌<◌, ◌≤◌, Bool, true, false, cond, ◌&&◌, ltb, leb, List, [], ◌∷◌, ◌++◌, length, get_or, take, drop, set, replicate, Some, None, Option, sym, refl, ap, ◌∙◌, append_assoc, arith}
-use Rattle.std.proofs.lemmas.List.{at_drop_more, drop_all, take_more, set_at, length-take-le, length-append, length-replicate}
-use Rattle.std.proofs.lemmas.Bool.{leb-true, ltb-true, lt-ltb, and_parts, cond-true}
+use Rattle.std.proofs.Common.{◌≡◌, ℕ, zero, suc, ◌+◌, ◌-◌, ◌≤◌, Bool, true, false, cond, ◌&&◌, ltb, leb, List, [], ◌∷◌, ◌++◌, length, get_or, replicate, Some, None, Option, refl, ap, ◌∙◌, arith}
+use Rattle.std.proofs.lemmas.List.{length-append, length-replicate}
+use Rattle.std.proofs.lemmas.Bool.{leb-true, ltb-true, and_parts}
 use Rattle.refusal.specs.declared.Fault.TheVariants.{TooMany, OutOfRange, Misfit}
 use Rattle.paced.specs.Pace.{Fit}
-use Rattle.paced.specs.Makes.{in_range, all_in_range, given_right, fault_of, fresh, adding}
-
--- the costs are looked at one after another
-pub range_first : (xs : List ℕ) (i : ℕ) → i < length xs → all_in_range (drop i xs) ≡ (in_range (get_or xs i 0) && all_in_range (drop (i + 1) xs))
-range_first xs i h = at_drop_more all_in_range xs i 0 h
-
-pub range_last : (xs : List ℕ) (i : ℕ) → length xs ≤ i → all_in_range (drop i xs) ≡ true
-range_last xs i h = ap all_in_range (drop_all i xs h)
-
--- a cost is put in the place of the first 0 behind those that are there
-pub padded_more : (xs : List ℕ) (i : ℕ) → i < length xs → i < 8 → set (take i xs ++ replicate (8 - i) 0) i (get_or xs i 0) ≡ take (i + 1) xs ++ replicate (8 - (i + 1)) 0
-padded_more xs i h small =
-    ap (λ n. set (take i xs ++ replicate n 0) i (get_or xs i 0)) one
-    ∙ set_at (take i xs) 0 (replicate (8 - (i + 1)) 0) (get_or xs i 0) i (length-take-le i xs (omega arith))
-    ∙ sym (ap (λ ys. ys ++ replicate (8 - (i + 1)) 0) (take_more xs i 0 h) ∙ append_assoc (take i xs) (get_or xs i 0 ∷ []) (replicate (8 - (i + 1)) 0))
-  where
-    one : 8 - i ≡ suc (8 - (i + 1))
-    one = omega arith
+use Rattle.paced.specs.Makes.{in_range, all_in_range, given_right, fault_of, fresh}
 
 -- what no fault is found with makes a part that is fit
 
@@ -74,7 +57,3 @@ fresh_fit t j xs e =
 
     held : length (xs ++ replicate (8 - length xs) 0) ≡ 8
     held = length-append xs (replicate (8 - length xs) 0) ∙ ap (λ n. length xs + n) (length-replicate (8 - length xs) 0) ∙ omega (arith, few)
-
--- where a small table has room, a larger one finds the same fault
-pub adding_same : (most more n t j : ℕ) (xs : List ℕ) → n < most → n < more → adding most n t j xs ≡ adding more n t j xs
-adding_same most more n t j xs h i = cond-true (ltb n most) (fault_of t j xs) (Some TooMany) (lt-ltb n most h) ∙ sym (cond-true (ltb n more) (fault_of t j xs) (Some TooMany) (lt-ltb n more i))

@@ -1,6 +1,7 @@
 -- Which paced parts can be made, and as what: the period and each cost from 1 to 1,000,000, the jitter below the
 -- period, and 1 to 8 costs.
-use Rattle.std.specs.Prelude.{ℕ, ◌-◌, Bool, true, cond, ◌&&◌, List, [], ◌∷◌, ◌++◌, length, replicate, Some, None, Option, nat_le, nat_lt}
+use Rattle.std.specs.Prelude.{ℕ, ◌-◌, Bool, cond, ◌&&◌, List, ◌++◌, length, replicate, Some, None, Option, nat_le, nat_lt}
+use Rattle.std.specs.List.{list_all}
 use Rattle.refusal.specs.declared.Fault.{Fault}
 use Rattle.refusal.specs.declared.Fault.TheVariants.{TooMany, OutOfRange, Misfit}
 use Rattle.paced.specs.declared.row.Row.{Row}
@@ -10,8 +11,7 @@ abbrev pub in_range : ℕ → Bool
 in_range x = nat_le 1 x && nat_le x 1000000
 
 abbrev pub all_in_range : List ℕ → Bool
-all_in_range [] = true
-all_in_range (x ∷ xs) = in_range x && all_in_range xs
+all_in_range costs = list_all in_range costs
 
 -- period, jitter and costs are numbers that may be given
 abbrev pub given_right : ℕ → ℕ → List ℕ → Bool

@@ -29,19 +29,14 @@ pub struct Row {
 pub fn in_range(x: u32) -> bool
     ensures { result ≡ in_range x }
 {
-    1 <= x && x <= LARGEST
+    (1..=LARGEST).contains(&x)
 }
 
 // Whether each cost may be given.
 fn all_in_range(costs: &[u32]) -> bool
     ensures { result ≡ all_in_range costs.now }
 {
-    for cost in costs {
-        if !in_range(*cost) {
-            return false;
-        }
-    }
-    true
+    costs.iter().all(|cost| in_range(*cost))
 }
 
 // Whether period, jitter and costs are numbers that may be given.
@@ -73,9 +68,7 @@ fn padded(costs: &[u32]) -> [u32; 8]
     ensures { result ≡ costs.now ++ replicate (8 - length costs.now) 0 }
 {
     let mut table = [0; 8];
-    for (place, cost) in costs.iter().enumerate() {
-        table[place] = *cost;
-    }
+    table[..costs.len()].copy_from_slice(costs);
     table
 }
 
@@ -150,10 +143,10 @@ impl Row {
         ensures fit { IfOk result (λ row. Fit row) }
         ensures made { MatchResult result (λ row. (fault_of period jitter costs.now ≡ None) × (row ≡ fresh period jitter costs.now)) (λ fault. fault_of period jitter costs.now ≡ Some fault) }
     {
-        if let Some(fault) = pace_fault(period, jitter, costs) {
-            return Err(fault);
+        match pace_fault(period, jitter, costs) {
+            Some(fault) => Err(fault),
+            None => Ok(fresh_row(period, jitter, costs)),
         }
-        Ok(fresh_row(period, jitter, costs))
     }
 
     // The largest cost.

@@ -25,10 +25,8 @@ impl Paced {
     pub fn new(period: u32, jitter: u32, costs: &[u32]) -> Result<Paced, Refusal>
         ensures { MatchResult result (λ p. (fault_of period jitter costs.now ≡ None) × (p.row ≡ fresh period jitter costs.now)) (λ e. (fault_of period jitter costs.now ≡ Some e.fault) × (e.line ≡ 0) × (e.task ≡ 0)) }
     {
-        match Row::new(period, jitter, costs) {
-            Ok(row) => Ok(Paced { row }),
-            Err(fault) => Err(Refusal::plain(fault)),
-        }
+        let row = Row::new(period, jitter, costs)?;
+        Ok(Paced { row })
     }
 }
 

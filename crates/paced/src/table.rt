@@ -1,37 +1,35 @@
-// A table of paced parts: plain rows, of which the table says what they keep to.
-ghost use Rattle.std.specs.Prelude.{◌≡◌, ℕ, ◌+◌, ◌-◌, ◌<◌, ◌≤◌, true, false, ◌&&◌, length, replicate, if◌then◌else◌, Some, None, MatchResult, slice_set};
+// Tables of paced parts: plain rows, of which the table says what they keep to.
+ghost use Rattle.std.specs.Prelude.{◌≡◌, ℕ, ◌+◌, ◌-◌, ◌<◌, ◌≤◌, min, true, false, ◌&&◌, length, replicate, if◌then◌else◌, Some, None, MatchOption, MatchResult, nat_lt, slice_set};
 ghost use Rattle.source.specs.Facts.{is_part, offerable, Sound, Kept, Taken, Ticked, Driven};
 ghost use Rattle.paced.specs.Loads.{row_load};
 ghost use Rattle.paced.specs.Makes.{adding, fresh, unused};
-ghost use Rattle.paced.specs.Pace.{Paces, Places, Costs, largest_cost};
+ghost use Rattle.paced.specs.Pace.{Paces, Places, Costs, Fit, largest_cost};
 ghost use Rattle.paced.specs.Tables.{row_at, demands_of, allowances_of, Gives, Passes};
 ghost use Rattle.std.proofs.Common.{arith};
 ghost use Rattle.paced.specs.Together.{table_sound, list_taken, list_ticked};
 
 use crate::row::{Row, pace_fault};
 use refusal::Fault;
-use source::{Gate, LONGEST, Source};
+use source::{Gate, LONGEST, MOST_PARTS, Source};
 
-// How many rows a table has room for.
-pub const ROOM: u32 = 16;
-
-// Up to 16 paced parts, side by side, in the order in which they were added. The rows are plain; what every row in use
-// keeps to stands here, among it that its level never passes jitter plus period.
+// Up to `ROOM` paced parts, side by side, in the order in which they were added; never more than the 1,000 that a source
+// may have. The rows are plain; what every row in use keeps to stands here, among it that its level never passes jitter
+// plus period.
 #[derive(Clone, Copy)]
-pub struct Table {
-    rows: [Row; 16],
+pub struct Table<const ROOM: usize> {
+    rows: [Row; ROOM],
     count: u32,
-    ghost held: { length rows ≡ 16 },
-    ghost few: { count ≤ 16 },
+    ghost held: { length rows ≡ ROOM },
+    ghost few: { count ≤ min ROOM 1000 },
     ghost paces: { (i : ℕ) → i < count → Paces (row_at rows i) },
     ghost places: { (i : ℕ) → i < count → Places (row_at rows i) },
     ghost costs: { (i : ℕ) → i < count → Costs (row_at rows i) },
 }
 
-impl Table {
+impl<const ROOM: usize> Table<ROOM> {
     // A table with no part.
-    pub fn new() -> Table
-        ensures rows { result.rows ≡ replicate 16 unused }
+    pub fn new() -> Self
+        ensures rows { result.rows ≡ replicate ROOM unused }
         ensures count { result.count ≡ 0 }
     {
         let unused = Row {
@@ -42,17 +40,30 @@ impl Table {
             level: 0,
             place: 0,
         };
-        Table {
-            rows: [unused; 16],
-            count: 0,
-        }
+        let rows = [unused; ROOM];
+        Table { rows, count: 0 }
+    }
+
+    // Whether there is room for one part more.
+    fn has_room(&self) -> bool
+        ensures { result ≡ nat_lt self.now.count (min ROOM 1000) }
+    {
+        (self.count as usize) < ROOM.min(MOST_PARTS as usize)
+    }
+
+    // The row of a part, or None if there is no such part.
+    fn row(&self, part: u32) -> Option<&Row>
+        ensures { MatchOption result (is_part self.now.count part ≡ false) (λ row. (is_part self.now.count part ≡ true) × (row.now ≡ row_at self.now.rows (part - 1)) × Fit row.now) }
+    {
+        let place = part.checked_sub(1)?;
+        self.rows[..self.count as usize].get(place as usize)
     }
 
     // What is wrong with one part more, if anything is.
     pub fn fault(&self, period: u32, jitter: u32, costs: &[u32]) -> Option<Fault>
-        ensures { result ≡ adding 16 self.now.count period jitter costs.now }
+        ensures { result ≡ adding (min ROOM 1000) self.now.count period jitter costs.now }
     {
-        if self.count >= ROOM {
+        if !self.has_room() {
             return Some(Fault::TooMany);
         }
         pace_fault(period, jitter, costs)
@@ -62,28 +73,22 @@ impl Table {
     pub fn largest_cost(&self, part: u32) -> Option<u32>
         ensures { result ≡ (if is_part self.now.count part then Some (largest_cost (row_at self.now.rows (part - 1))) else None) }
     {
-        if part < 1 || part > self.count {
-            return None;
-        }
-        Some(self.rows[(part - 1) as usize].largest_cost())
+        Some(self.row(part)?.largest_cost())
     }
 
     // The share of the processor's time that a part asks for, in ten-thousandths, or None if there is no such part.
     pub fn load(&self, part: u32) -> Option<u64>
         ensures { result ≡ (if is_part self.now.count part then Some (row_load (row_at self.now.rows (part - 1))) else None) }
     {
-        if part < 1 || part > self.count {
-            return None;
-        }
-        Some(self.rows[(part - 1) as usize].load())
+        Some(self.row(part)?.load())
     }
 
     // One part more behind the others, with level and place 0, or what is wrong: no room or more than 8 costs; a period
     // or cost of 0, no cost or a number above 1,000,000; a jitter that is not below the period.
     pub fn add(&mut self, period: u32, jitter: u32, costs: &[u32]) -> Result<(), Fault>
-        ensures { MatchResult result (λ _. (adding 16 self.old.count period jitter costs.now ≡ None) × (self.new.rows ≡ slice_set self.old.rows self.old.count (fresh period jitter costs.now)) × (self.new.count ≡ self.old.count + 1)) (λ fault. (adding 16 self.old.count period jitter costs.now ≡ Some fault) × (self.new ≡ self.old)) }
+        ensures { MatchResult result (λ _. (adding (min ROOM 1000) self.old.count period jitter costs.now ≡ None) × (self.new.rows ≡ slice_set self.old.rows self.old.count (fresh period jitter costs.now)) × (self.new.count ≡ self.old.count + 1)) (λ fault. (adding (min ROOM 1000) self.old.count period jitter costs.now ≡ Some fault) × (self.new ≡ self.old)) }
     {
-        if self.count >= ROOM {
+        if !self.has_room() {
             return Err(Fault::TooMany);
         }
         let row = Row::new(period, jitter, costs)?;
@@ -95,7 +100,7 @@ impl Table {
     }
 }
 
-impl Source for Table {
+impl<const ROOM: usize> Source for Table<ROOM> {
     ghost parts = { λ s. s.count };
 
     ghost demanded = { λ s. demands_of s.count (row_at s.rows) };
@@ -109,21 +114,16 @@ impl Source for Table {
     }
 
     fn demand(&self, part: u32, ticks: u32) -> Option<u64> {
-        if part < 1 || part > self.count || ticks > LONGEST {
-            return None;
-        }
-        Some(self.rows[(part - 1) as usize].demand(ticks))
+        let row = self.row(part)?;
+        (ticks <= LONGEST).then(|| row.demand(ticks))
     }
 
     fn allowance(&self, part: u32) -> Option<u64> {
-        if part < 1 || part > self.count {
-            return None;
-        }
-        Some(u64::from(self.rows[(part - 1) as usize].allowance()))
+        Some(u64::from(self.row(part)?.allowance()))
     }
 }
 
-impl Gate for Table {
+impl<const ROOM: usize> Gate for Table<ROOM> {
     ghost takes = { λ s k u t. Gives s.count s.rows k u t.count t.rows };
 
     ghost ticks = { λ s t. Passes s.count s.rows t.count t.rows };

@@ -29,13 +29,13 @@ pub(crate) fn find<S: Source>(bank: &S, tasks: &Tasks) -> Finding
         };
     }
     for place in 0..count {
-        match window_of(bank, tasks, place) {
-            Some(ticks) => bounds[place as usize] = ticks,
-            None => return Finding {
+        let Some(ticks) = window_of(bank, tasks, place) else {
+            return Finding {
                 verdict: Verdict::late(place),
                 bounds,
-            },
-        }
+            };
+        };
+        bounds[place as usize] = ticks;
     }
     Finding {
         verdict: Verdict::Accepted(count),

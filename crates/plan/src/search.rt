@@ -16,6 +16,7 @@ fn total_of<S: Source>(source: &S, parts: u32, ticks: u32) -> u64
     ensures small { result ≤ 160000000000000 }
 {
     let mut all: u64 = 0;
+    // counted from 0: a loop over `1..=parts` ends in two places, and its proof is twice as long
     for place in 0..parts {
         all += source.demand(place + 1, ticks).unwrap_or(0);
     }

@@ -70,15 +70,15 @@ impl<S> OpenPlan<S> {
         ensures bank { self.new.bank ≡ self.old.bank }
         ensures added { MatchResult result (λ _. (task_fault self.old.tasks.limits self.old.tasks.parts.count period jitter limit.blocking limit.deadline limit.hold costs.now ≡ None) × (self.new.tasks.parts.rows ≡ slice_set self.old.tasks.parts.rows self.old.tasks.parts.count (fresh period jitter costs.now)) × (self.new.tasks.parts.count ≡ self.old.tasks.parts.count + 1) × (self.new.tasks.limits ≡ slice_set self.old.tasks.limits self.old.tasks.parts.count limit)) (λ e. (task_fault self.old.tasks.limits self.old.tasks.parts.count period jitter limit.blocking limit.deadline limit.hold costs.now ≡ Some e.fault) × (e.line ≡ 0) × (e.task ≡ self.old.tasks.parts.count + 1) × (self.new.tasks ≡ self.old.tasks)) }
     {
-        let number = self.tasks.count() + 1;
+        let task = self.tasks.count() + 1;
         let mut tasks = self.tasks;
-        if let Err(fault) = tasks.add(period, jitter, limit, costs) {
-            return Err(Refusal {
+        tasks
+            .add(period, jitter, limit, costs)
+            .map_err(|fault| Refusal {
                 fault,
                 line: 0,
-                task: number,
-            });
-        }
+                task,
+            })?;
         self.tasks = tasks;
         Ok(())
     }
@@ -134,9 +134,7 @@ impl<S> JudgedPlan<S> {
         ensures list { list.new ≡ take result self.now.bounds ++ drop result list.old }
     {
         let count = list.len().min(self.verdict.bounds() as usize);
-        for place in 0..count {
-            list[place] = self.bounds[place];
-        }
+        list[..count].copy_from_slice(&self.bounds[..count]);
         count
     }
 }

@@ -1,5 +1,6 @@
 // The table of tasks. A task is a paced part with blocking, deadline and longest hold; the first task is the highest.
-ghost use Rattle.std.specs.Prelude.{◌≡◌, ℕ, ◌+◌, ◌-◌, ◌^◌, ◌<◌, ◌≤◌, true, false, ◌&&◌, length, replicate, if◌then◌else◌, Some, None, MatchResult, slice_set};
+ghost use Rattle.std.specs.Prelude.{◌≡◌, ℕ, ◌+◌, ◌-◌, ◌^◌, ◌<◌, ◌≤◌, true, false, ◌&&◌, length, replicate, if◌then◌else◌, Some, None, MatchResult, nat_le, slice_set};
+ghost use Rattle.std.specs.List.{list_all};
 ghost use Rattle.source.specs.Facts.{is_part};
 ghost use Rattle.paced.specs.Loads.{row_load};
 ghost use Rattle.paced.specs.Makes.{fresh, adding, unused};
@@ -24,7 +25,7 @@ pub struct Limit {
 // Up to 16 tasks, in the order of their priority.
 #[derive(Clone, Copy)]
 pub struct Tasks {
-    parts: Table,
+    parts: Table<16>,
     limits: [Limit; 16],
     ghost held: { length limits ≡ 16 },
     ghost deadlines: { (i : ℕ) → i < parts.count → (limit_at limits i).deadline + (row_at parts.rows i).jitter ≤ (row_at parts.rows i).period },
@@ -35,14 +36,9 @@ pub struct Tasks {
 
 // Whether a hold is at most the blocking in each of some limits.
 fn bearable_by(limits: &[Limit], hold: u32) -> bool
-    ensures { result ≡ bearable limits.now hold (length limits.now) }
+    ensures { result ≡ list_all (λ limit. nat_le hold limit.blocking) limits.now }
 {
-    for limit in limits {
-        if hold > limit.blocking {
-            return false;
-        }
-    }
-    true
+    limits.iter().all(|limit| hold <= limit.blocking)
 }
 
 impl Tasks {
@@ -68,7 +64,7 @@ impl Tasks {
         ensures { result ≡ bearable self.now.limits hold self.now.parts.count }
     {
         let count = self.parts.count() as usize;
-        bearable_by(&self.limits[0..count], hold)
+        bearable_by(&self.limits[..count], hold)
     }
 
     // What is wrong with the limits of one task more, if anything is.
@@ -108,9 +104,7 @@ impl Tasks {
         }
         let place = self.parts.count() as usize;
         let mut parts = self.parts;
-        if let Err(fault) = parts.add(period, jitter, costs) {
-            return Err(fault);
-        }
+        parts.add(period, jitter, costs)?;
         let mut limits = self.limits;
         limits[place] = limit;
         self.parts = parts;
@@ -129,10 +123,10 @@ impl Tasks {
     pub fn limit(&self, task: u32) -> Option<Limit>
         ensures { result ≡ (if is_part self.now.parts.count task then Some (limit_at self.now.limits (task - 1)) else None) }
     {
-        if task < 1 || task > self.parts.count() {
-            return None;
-        }
-        Some(self.limits[(task - 1) as usize])
+        let place = task.checked_sub(1)?;
+        self.limits[..self.parts.count() as usize]
+            .get(place as usize)
+            .copied()
     }
 
     // The share of the processor's time that a task asks for, in ten-thousandths, or None if there is no such task.
@@ -143,7 +137,7 @@ impl Tasks {
     }
 
     // The paced parts of all tasks, with their levels and places.
-    pub fn table(&self) -> Table
+    pub fn table(&self) -> Table<16>
         ensures { result ≡ self.now.parts }
     {
         *self.parts()
@@ -158,7 +152,7 @@ impl Tasks {
     }
 
     // The paced parts of the tasks: part k is that of the k-th task.
-    pub(crate) fn parts(&self) -> &Table
+    pub(crate) fn parts(&self) -> &Table<16>
         ensures { result.now ≡ self.now.parts }
     {
         &self.parts

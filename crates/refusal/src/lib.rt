@@ -108,16 +108,11 @@ impl Fault {
 pub fn first_fault(a: Option<Fault>, b: Option<Fault>) -> Option<Fault>
     ensures { result ≡ first_of a b }
 {
+    // `min_by_key` would say the same, with a proof of what its closure answers
     match (a, b) {
+        (Some(f), Some(g)) if f.number() > g.number() => Some(g),
+        (Some(f), _) => Some(f),
         (None, found) => found,
-        (Some(f), None) => Some(f),
-        (Some(f), Some(g)) => {
-            if f.number() <= g.number() {
-                Some(f)
-            } else {
-                Some(g)
-            }
-        }
     }
 }
 

@@ -17,7 +17,7 @@ pub(crate) fn offer_to<G: Gate>(bank: &mut G, part: u32, units: u64)
 }
 
 // The tasks after one of them took units.
-pub(crate) fn given(table: Table, task: u32, units: u64) -> Table
+pub(crate) fn given(table: Table<16>, task: u32, units: u64) -> Table<16>
     requires { offerable table.count (allowances_of table.count (row_at table.rows)) task units ≡ true }
     ensures gives { Gives table.count table.rows task units result.count result.rows }
     ensures taken { Taken (allowances_of table.count (row_at table.rows)) task units (allowances_of result.count (row_at result.rows)) }
@@ -29,7 +29,7 @@ pub(crate) fn given(table: Table, task: u32, units: u64) -> Table
 }
 
 // The tasks a tick later.
-pub(crate) fn ticked(table: Table) -> Table
+pub(crate) fn ticked(table: Table<16>) -> Table<16>
     ensures passes { Passes table.count table.rows result.count result.rows }
     ensures ticked { Ticked (allowances_of table.count (row_at table.rows)) (allowances_of result.count (row_at result.rows)) }
     ensures kept { Kept table.count (demands_of table.count (row_at table.rows)) result.count (demands_of result.count (row_at result.rows)) }

@@ -29,7 +29,7 @@ use source::{Gate, Source};
 #[derive(Drop)]
 pub struct Run<G> {
     bank: G,
-    table: Table,
+    table: Table<16>,
     limits: [Limit; 16],
     accepted: bool,
     parts: u32,

@@ -4,7 +4,7 @@ use Rattle.std.proofs.lemmas.List.{get_or_append_left, length-take-le, get_or-ta
 use Rattle.refusal.specs.Table.{told}
 use Rattle.refusal.specs.declared.Fault.TheVariants as faults
 use Rattle.refusal.specs.declared.Refusal.{Refusal}
-use Rattle.paced.specs.declared.rack.Rack.{Rack}
+use Rattle.paced.specs.declared.table.Table.{Table}
 use Rattle.schedule.specs.declared.cyclic.Schedule.{Schedule}
 use Rattle.plan.specs.Judged.{outcome_of, bounds_told}
 use Rattle.plan.specs.declared.tasks.Tasks.{Tasks}
@@ -15,7 +15,7 @@ use Rattle.sheet.specs.Reading.{Sheet}
 use Rattle.sheet.specs.Views.{of_parts}
 
 -- the same parts give the same judgement
-pub same_judged : (s s' : Schedule) (r r' : Rack) (t t' : Tasks) (v : Verdict) (bounds : List ℕ) → s ≡ s' → r ≡ r' → t ≡ t' → JudgedPlan (of_parts s r t) v bounds → JudgedPlan (of_parts s' r' t') v bounds
+pub same_judged : (s s' : Schedule) (r r' : Table 8) (t t' : Tasks) (v : Verdict) (bounds : List ℕ) → s ≡ s' → r ≡ r' → t ≡ t' → JudgedPlan (of_parts s r t) v bounds → JudgedPlan (of_parts s' r' t') v bounds
 same_judged s s' r r' t t' v bounds es er et h =
     subst (λ x. JudgedPlan (of_parts x r' t') v bounds) es
     (subst (λ x. JudgedPlan (of_parts s x t') v bounds) er

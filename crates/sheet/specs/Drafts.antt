@@ -31,7 +31,7 @@ plain f = record { fault = f; line = 0; task = 0 }
 
 -- a cycle line opens a plan with no pair, no interrupt and no task
 abbrev pub opened : ℕ → Plan
-opened c = record { cycle = c; pairs = 0; slots = replicate 64 none; phase = 0; taken = false; irqs = 0; irq_rows = replicate 16 unused; tasks = 0; task_rows = replicate 16 unused; limits = replicate 16 unlimited }
+opened c = record { cycle = c; pairs = 0; slots = replicate 64 none; phase = 0; taken = false; irqs = 0; irq_rows = replicate 8 unused; tasks = 0; task_rows = replicate 16 unused; limits = replicate 16 unlimited }
 
 abbrev pub with_pair : Plan → ℕ → ℕ → Plan
 with_pair p o z = record { cycle = p.cycle; pairs = p.pairs + 1; slots = slice_set p.slots p.pairs (record { offset = o; length = z }); phase = p.phase; taken = p.taken; irqs = p.irqs; irq_rows = p.irq_rows; tasks = p.tasks; task_rows = p.task_rows; limits = p.limits }

@@ -54,7 +54,8 @@ impl Draft {
         if self.tasks.count() > 0 {
             return Err(Refusal::plain(Fault::BadLine));
         }
-        self.rack.add(period, jitter, costs.list())
+        self.rack.add(period, jitter, costs.list())?;
+        Ok(())
     }
 
     // One task more.

@@ -43,8 +43,8 @@ fn judged(finished: &Finished) -> Result<[u32; 16], Refusal>
 
 // The loads of the parts: the interrupts in their order, then the schedule.
 fn part_marks(draft: &Draft) -> Marks
-    ensures count { result.part_count ≡ draft.now.rack.table.count + 1 }
-    ensures loads { (k : ℕ) → k < draft.now.rack.table.count + 1 → slice_index result.parts k ≡ part_load (view draft.now) k }
+    ensures count { result.part_count ≡ draft.now.rack.count + 1 }
+    ensures loads { (k : ℕ) → k < draft.now.rack.count + 1 → slice_index result.parts k ≡ part_load (view draft.now) k }
     ensures tasks { result.task_count ≡ 0 }
 {
     let mut marks = Marks::new();

@@ -4,11 +4,11 @@ use Rattle.plan.specs.declared.verdict.Verdict.TheVariants.{Late}
 use Rattle.plan.proofs.Bounds.{bound_more}
 use Rattle.plan.proofs.judge.find.Goals as goal
 
-pub returns-in-None : goal.returns-in-None
-returns-in-None g c =
+pub returns-in_default : goal.returns-in_default
+returns-in_default g c =
     let b = c.args.bank.now in
     let t = c.args.tasks.now in
-    let late : Unbounded (g.S.Source.demanded b) (g.S.Source.parts b) t.limits t.parts.count t.parts.rows c.loop-place.place = c.in-None.ensures in
+    let late : Unbounded (g.S.Source.demanded b) (g.S.Source.parts b) t.limits t.parts.count t.parts.rows c.loop-place.place = c.in_default.ensures in
     let found : Judged (g.S.Source.demanded b) (g.S.Source.parts b) t.limits t.parts.count t.parts.rows (Late (c.loop-place.place + 1)) c.loop-place.bounds = (
       omega (arith, c.count.ensures, c.if-count-gt-BANK_PARTS.false),
       omega arith,

@@ -7,7 +7,7 @@ use Rattle.paced.specs.Together.{list_taken, offered_at}
 use Rattle.paced.proofs.table.TableGate.offer.Goals as goal
 
 pub returns : goal.returns
-returns c =
+returns g c =
     let s = c.args.self.now in
     let n = s.count in
     let k = c.args.part in

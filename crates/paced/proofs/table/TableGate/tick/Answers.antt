@@ -7,20 +7,20 @@ use Rattle.paced.specs.Together.{list_ticked, later_every, ticks_on, ticks_all}
 use Rattle.paced.proofs.table.TableGate.tick.Goals as goal
 
 pub loop-row-preserved : goal.loop-row-preserved
-loop-row-preserved c =
+loop-row-preserved g c =
     let s = c.args.self.now in
     let ys = c.loop-row.row-items in
     let i = c.loop-row.row-index in
     ap (set ys i) c.lower.ensures ∙ ticks_on s.rows ys i (omega arith) c.loop-row.invariant
 
 pub invariant_of-self : goal.invariant_of-self
-invariant_of-self c =
+invariant_of-self g c =
     let s = c.args.self.now in
     let all : c.loop-row.row-items ≡ map later s.rows = ticks_all s.rows c.loop-row.row-items c.loop-row.row-index (omega arith) c.loop-row.invariant in
     let fit : (i : ℕ) → i < s.count → Fit (later (row_at s.rows i)) = λ i h. later_fit (row_at s.rows i) (record { paces = s.paces i h; places = s.places i h; costs = s.costs i h }) in
-    let held : length (map later s.rows) ≡ 16 = length-map s.rows later ∙ s.held in
+    let held : length (map later s.rows) ≡ g.row.ROOM = length-map s.rows later ∙ s.held in
     record {
-      held = subst (λ rows. length rows ≡ 16) (sym all) held;
+      held = subst (λ rows. length rows ≡ g.row.ROOM) (sym all) held;
       few = s.few;
       paces = subst (λ rows. (i : ℕ) → i < s.count → Paces (row_at rows i)) (sym all) (later_every Paces s.rows s.count (omega arith) (λ i h. (fit i h).paces));
       places = subst (λ rows. (i : ℕ) → i < s.count → Places (row_at rows i)) (sym all) (later_every Places s.rows s.count (omega arith) (λ i h. (fit i h).places));
@@ -28,7 +28,7 @@ invariant_of-self c =
     }
 
 pub returns : goal.returns
-returns c =
+returns g c =
     let s = c.args.self.now in
     let all : c.loop-row.row-items ≡ map later s.rows = ticks_all s.rows c.loop-row.row-items c.loop-row.row-index (omega arith) c.loop-row.invariant in
     let passes : Passes s.count s.rows s.count c.loop-row.row-items = record { count = refl; lowered = all } in

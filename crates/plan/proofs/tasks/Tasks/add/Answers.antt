@@ -7,13 +7,13 @@ use Rattle.plan.proofs.Adding.{Right, right_limits, add_deadlines, add_blockings
 use Rattle.plan.proofs.Bearing.{first_none}
 use Rattle.plan.proofs.tasks.Tasks.add.Goals as goal
 
-pub returns-in-Err : goal.returns-in-Err
-returns-in-Err c =
+pub returns-in_err-add : goal.returns-in_err-add
+returns-in_err-add c =
     let a = c.fault.result in
     let b = c.limit_fault.result in
     let none : first_of a b ≡ None = sym c.first_fault-found.ensures ∙ c.in_default.is in
     let clean : a ≡ None = (first_none a b none).0 in
-    let found = c.in-Err.ensures.0 in
+    let found = c.in_err-add.ensures.0 in
     let z : ◌≡◌ {A = ℕ} 0 1 = cc (c.fault.ensures, clean, found) in
     absurd (omega arith)
 
@@ -30,7 +30,7 @@ invariant_of-self c =
     let right : Right s.limits n t j l = right_limits s.limits n t j l (sym c.limit_fault.ensures ∙ (first_none a b none).1) in
     let p = s.parts in
     let p' = c.add.new.self in
-    let grown = c.in_default-add.ensures in
+    let grown = c.in_ok-add.ensures in
     let r = fresh t j c.args.costs.now in
     let room : n < 16 = had_room n t j c.args.costs.now grown.0 in
     let rows_room : n < length p.rows = omega (arith, p.held) in
