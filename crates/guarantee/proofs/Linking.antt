@@ -95,7 +95,7 @@ module _ {S : Type 0} (parts : S → ℕ) (demanded allowed : S → ℕ → ℕ 
   step_offer : (s t : Now S) (k u : ℕ) (a : Answer) → In s → DidHere (Offer k u) a s t → Stepped (Offer k u) a s t
   step_offer s t k u a h did =
       by_answer (Offer k u) s t a (offer_fault true n (allowed s.bank k 1) s.state.backlogs k u) _ did (λ r. refl) h
-      (λ e x. (let part = offer_bounds true n (allowed s.bank k 1) s.state.backlogs k u refl e in
+      (λ e x. (let part = offer_bounds true n (allowed s.bank k 1) s.state.backlogs k u e in
       let g = driven.taken s.bank t.bank k u x.1 in
       let off = offered_step m s.rows s.state (allowed s.bank) (allowed t.bank) k u part.0 (omega (arith, part.1, h.backlogs)) g.1 in
       let to : view_of (allowed t.bank) m s.rows (grown s.state k u) ≡ view t = λ i. view_of (allowed t.bank) m (sym x.2 i) (sym x.3 i) in (
@@ -114,7 +114,7 @@ module _ {S : Type 0} (parts : S → ℕ) (demanded allowed : S → ℕ → ℕ 
   step_release s t i u a h did =
       by_answer (Release i u) s t a (release_fault true m (allowances_of m (row_at s.rows) i 1) s.state.jobs i u) _ did (λ r. refl) h
       (λ e x. (let most = allowances_of m (row_at s.rows) i 1 in
-      let task = releasable true m most s.state.jobs i u refl e in
+      let task = releasable true m most s.state.jobs i u e in
       let y = steady_given m start s.rows h.steady i u t.rows x.2 in
       let to : view_of (allowed s.bank) m t.rows (released s.state i u) ≡ view t = λ k. view_of (allowed (sym x.1 k)) m t.rows (sym x.3 k) in (
         answered (Release i u) s t a answers.Done _ x.0 to (released_step m s.rows s.state start n d (allowed s.bank) limits bounds t.rows most i u task (omega (arith, task.last, h.jobs)) y.1),
@@ -131,7 +131,7 @@ module _ {S : Type 0} (parts : S → ℕ) (demanded allowed : S → ℕ → ℕ 
   step_hold : (s t : Now S) (i u : ℕ) (a : Answer) → In s → DidHere (Hold i u) a s t → Stepped (Hold i u) a s t
   step_hold s t i u a h did =
       by_answer (Hold i u) s t a (hold_fault true m limits s.state i u) _ did (λ r. refl) h
-      (λ e x. (let task = holdable true m limits s.state i u refl e in
+      (λ e x. (let task = holdable true m limits s.state i u e in
       let step = granted_step m s.rows s.state start n d (allowed s.bank) limits bounds i u task in (
         answered (Hold i u) s t a answers.Done _ x.0 (kept_view s t (granted s.state i u) x.1 x.2 x.3) step,
         kept_inside s t h x.1 x.2 (ap (λ y. length y.backlogs) x.3 ∙ h.backlogs) (ap (λ y. length y.jobs) x.3 ∙ h.jobs) (omega (arith, ap (λ y. y.holder) x.3, task.last)),
@@ -140,7 +140,7 @@ module _ {S : Type 0} (parts : S → ℕ) (demanded allowed : S → ℕ → ℕ 
   step_let_go : (s t : Now S) (i : ℕ) (a : Answer) → In s → DidHere (LetGo i) a s t → Stepped (LetGo i) a s t
   step_let_go s t i a h did =
       by_answer (LetGo i) s t a (let_go_fault true m s.state i) _ did (λ r. refl) h
-      (λ e x. (let step = let_go_step m s.rows s.state (allowed s.bank) i (holding true m s.state i refl e) in (
+      (λ e x. (let step = let_go_step m s.rows s.state (allowed s.bank) i (holding true m s.state i e) in (
         answered (LetGo i) s t a answers.Done _ x.0 (kept_view s t (let_go s.state) x.1 x.2 x.3) step,
         kept_inside s t h x.1 x.2 (ap (λ y. length y.backlogs) x.3 ∙ h.backlogs) (ap (λ y. length y.jobs) x.3 ∙ h.jobs) (omega (arith, ap (λ y. y.holder) x.3)),
       )))
@@ -148,7 +148,7 @@ module _ {S : Type 0} (parts : S → ℕ) (demanded allowed : S → ℕ → ℕ 
   step_end : (s t : Now S) (i : ℕ) (a : Answer) → In s → DidHere (End i) a s t → Stepped (End i) a s t
   step_end s t i a h did =
       by_answer (End i) s t a (end_fault true m s.state.jobs i) _ did (λ r. refl) h
-      (λ e x. (let task = endable true m s.state.jobs i refl e in
+      (λ e x. (let task = endable true m s.state.jobs i e in
       let step = ended_step m s.rows s.state (allowed s.bank) i task.0 (omega (arith, task.1, h.jobs)) task.2 in
       let keeps = ended_keeps s.state i in (
         answered (End i) s t a answers.Done _ x.0 (kept_view s t (ended s.state i) x.1 x.2 x.3) step,

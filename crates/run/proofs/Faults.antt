@@ -1,5 +1,5 @@
 -- What is known where a call has no fault.
-use Rattle.std.proofs.Common.{◌≡◌, ℕ, ◌+◌, ◌≤◌, Bool, true, false, cond, ◌&&◌, leb, List, Some, None, Option, sym, refl, ◌∙◌, arith}
+use Rattle.std.proofs.Common.{◌≡◌, ℕ, ◌+◌, ◌≤◌, Bool, true, false, cond, ◌&&◌, leb, List, Some, None, Option, refl, arith}
 use Rattle.std.specs.Prelude.{nat_eq}
 use Rattle.std.proofs.lemmas.Bool.{leb-true, eqb-true, and_parts}
 use Rattle.std.specs.List.{sum}
@@ -14,10 +14,10 @@ use Rattle.run.specs.States.{left_of, hold_of, first_at}
 use Rattle.run.specs.declared.state.Job.{Job}
 use Rattle.run.specs.declared.state.State.{State}
 
--- a run that is accepted and a task that there is: o is the fault that was found
-task_of : (accepted : Bool) (n i : ℕ) (rest : Option Fault) {o : Option Fault} → o ≡ cond accepted (cond (is_part n i) rest (Some NoSuchNumber)) (Some NotAccepted) → o ≡ None → (1 ≤ i) × (i ≤ n) × (rest ≡ None)
-task_of accepted n i rest e none =
-    let there = passed (is_part n i) rest NoSuchNumber (passed accepted (cond (is_part n i) rest (Some NoSuchNumber)) NotAccepted (sym e ∙ none)).1 in
+-- a run that is accepted and a task that there is
+task_of : (accepted : Bool) (n i : ℕ) (rest : Option Fault) → cond accepted (cond (is_part n i) rest (Some NoSuchNumber)) (Some NotAccepted) ≡ None → (1 ≤ i) × (i ≤ n) × (rest ≡ None)
+task_of accepted n i rest none =
+    let there = passed (is_part n i) rest NoSuchNumber (passed accepted (cond (is_part n i) rest (Some NoSuchNumber)) NotAccepted none).1 in
     let bounds = part_bounds n i there.0 in
     (bounds.0, bounds.1, there.1)
 
@@ -29,9 +29,9 @@ takeable n d a sound k u some within = go (is_part n k) refl
     go true e = offerable_from n a k u e some within
     go false e = absurd (omega (arith, sound.outside k 1 e, sound.within k 1))
 
-pub offer_bounds : (accepted : Bool) (n most : ℕ) (backlogs : List ℕ) (k u : ℕ) {o : Option Fault} → o ≡ offer_fault accepted n most backlogs k u → o ≡ None → (1 ≤ k) × (k ≤ n) × (1 ≤ u) × (u ≤ most)
-offer_bounds accepted n most backlogs k u e none =
-    let part = task_of accepted n k (cond (leb 1 u && leb u most) (cond (leb (sum backlogs + u) 1000000) None (Some BacklogFull)) (Some UnitsNotAllowed)) e none in
+pub offer_bounds : (accepted : Bool) (n most : ℕ) (backlogs : List ℕ) (k u : ℕ) → offer_fault accepted n most backlogs k u ≡ None → (1 ≤ k) × (k ≤ n) × (1 ≤ u) × (u ≤ most)
+offer_bounds accepted n most backlogs k u none =
+    let part = task_of accepted n k (cond (leb 1 u && leb u most) (cond (leb (sum backlogs + u) 1000000) None (Some BacklogFull)) (Some UnitsNotAllowed)) none in
     let units = passed (leb 1 u && leb u most) (cond (leb (sum backlogs + u) 1000000) None (Some BacklogFull)) UnitsNotAllowed part.2 in
     let both = and_parts (leb 1 u) (leb u most) units.0 in
     (part.0, part.1, leb-true 1 u both.0, leb-true u most both.1)
@@ -43,9 +43,9 @@ pub record Releasable (n most : ℕ) (jobs : List Job) (i u : ℕ) : Type 0 wher
   pub allowed : u ≤ most
   pub none : left_of jobs i ≡ 0
 
-pub releasable : (accepted : Bool) (n most : ℕ) (jobs : List Job) (i u : ℕ) {o : Option Fault} → o ≡ release_fault accepted n most jobs i u → o ≡ None → Releasable n most jobs i u
-releasable accepted n most jobs i u e none =
-    let task = task_of accepted n i (cond (leb 1 u && leb u most) (cond (nat_eq (left_of jobs i) 0) None (Some JobPending)) (Some UnitsNotAllowed)) e none in
+pub releasable : (accepted : Bool) (n most : ℕ) (jobs : List Job) (i u : ℕ) → release_fault accepted n most jobs i u ≡ None → Releasable n most jobs i u
+releasable accepted n most jobs i u none =
+    let task = task_of accepted n i (cond (leb 1 u && leb u most) (cond (nat_eq (left_of jobs i) 0) None (Some JobPending)) (Some UnitsNotAllowed)) none in
     let units = passed (leb 1 u && leb u most) (cond (nat_eq (left_of jobs i) 0) None (Some JobPending)) UnitsNotAllowed task.2 in
     let both = and_parts (leb 1 u) (leb u most) units.0 in
     let free = (passed (nat_eq (left_of jobs i) 0) None JobPending units.1).0 in
@@ -60,9 +60,9 @@ pub record Holdable (n : ℕ) (limits : List Limit) (s : State) (i u : ℕ) : Ty
   pub short : u ≤ hold_of limits i
   pub within : u ≤ left_of s.jobs i
 
-pub holdable : (accepted : Bool) (n : ℕ) (limits : List Limit) (s : State) (i u : ℕ) {o : Option Fault} → o ≡ hold_fault accepted n limits s i u → o ≡ None → Holdable n limits s i u
-holdable accepted n limits s i u e none =
-    let task = task_of accepted n i (cond (grantable n limits s i u) None (Some HoldNotGranted)) e none in
+pub holdable : (accepted : Bool) (n : ℕ) (limits : List Limit) (s : State) (i u : ℕ) → hold_fault accepted n limits s i u ≡ None → Holdable n limits s i u
+holdable accepted n limits s i u none =
+    let task = task_of accepted n i (cond (grantable n limits s i u) None (Some HoldNotGranted)) none in
     let granted = (passed (grantable n limits s i u) None HoldNotGranted task.2).0 in
     let d = leb u (hold_of limits i) && leb u (left_of s.jobs i) in
     let c = leb 1 u && d in
@@ -82,12 +82,12 @@ holdable accepted n limits s i u e none =
     }
 
 -- the task that lets go is the holder
-pub holding : (accepted : Bool) (n : ℕ) (s : State) (i : ℕ) {o : Option Fault} → o ≡ let_go_fault accepted n s i → o ≡ None → s.holder ≡ i
-holding accepted n s i e none =
-    let task = task_of accepted n i (cond (nat_eq s.holder i) None (Some NothingToEnd)) e none in
+pub holding : (accepted : Bool) (n : ℕ) (s : State) (i : ℕ) → let_go_fault accepted n s i ≡ None → s.holder ≡ i
+holding accepted n s i none =
+    let task = task_of accepted n i (cond (nat_eq s.holder i) None (Some NothingToEnd)) none in
     eqb-true s.holder i (passed (nat_eq s.holder i) None NothingToEnd task.2).0
 
-pub endable : (accepted : Bool) (n : ℕ) (jobs : List Job) (i : ℕ) {o : Option Fault} → o ≡ end_fault accepted n jobs i → o ≡ None → (1 ≤ i) × (i ≤ n) × (1 ≤ left_of jobs i)
-endable accepted n jobs i e none =
-    let task = task_of accepted n i (cond (leb 1 (left_of jobs i)) None (Some NothingToEnd)) e none in
+pub endable : (accepted : Bool) (n : ℕ) (jobs : List Job) (i : ℕ) → end_fault accepted n jobs i ≡ None → (1 ≤ i) × (i ≤ n) × (1 ≤ left_of jobs i)
+endable accepted n jobs i none =
+    let task = task_of accepted n i (cond (leb 1 (left_of jobs i)) None (Some NothingToEnd)) none in
     (task.0, task.1, leb-true 1 (left_of jobs i) (passed (leb 1 (left_of jobs i)) None NothingToEnd task.2).0)

@@ -104,44 +104,44 @@ impl<G: Source> Run<G> {
         }
     }
 
-    // What is wrong with an offer, if anything is.
-    fn offer_fault(&self, part: u32, units: u64) -> Option<Fault>
-        ensures { result ≡ offer_fault self.now.accepted self.now.parts (G.Source.allowed self.now.bank part 1) self.now.state.backlogs part units }
+    // Looks for what is wrong with an offer.
+    fn check_offer(&self, part: u32, units: u64) -> Result<(), Fault>
+        ensures { MatchResult result (λ _. offer_fault self.now.accepted self.now.parts (G.Source.allowed self.now.bank part 1) self.now.state.backlogs part units ≡ None) (λ fault. offer_fault self.now.accepted self.now.parts (G.Source.allowed self.now.bank part 1) self.now.state.backlogs part units ≡ Some fault) }
     {
         if !self.accepted {
-            return Some(Fault::NotAccepted);
+            return Err(Fault::NotAccepted);
         }
         if part < 1 || part > self.parts {
-            return Some(Fault::NoSuchNumber);
+            return Err(Fault::NoSuchNumber);
         }
         let most = self.bank.allowance(part).unwrap_or(0);
         if units < 1 || units > most {
-            return Some(Fault::UnitsNotAllowed);
+            return Err(Fault::UnitsNotAllowed);
         }
         if units > MOST_BACKLOG - steps::total(&self.state.backlogs) {
-            return Some(Fault::BacklogFull);
+            return Err(Fault::BacklogFull);
         }
-        None
+        Ok(())
     }
 
-    // What is wrong with a release, if anything is.
-    fn release_fault(&self, task: u32, units: u64) -> Option<Fault>
-        ensures { result ≡ release_fault self.now.accepted self.now.table.count (allowances_of self.now.table.count (row_at self.now.table.rows) task 1) self.now.state.jobs task units }
+    // Looks for what is wrong with a release.
+    fn check_release(&self, task: u32, units: u64) -> Result<(), Fault>
+        ensures { MatchResult result (λ _. release_fault self.now.accepted self.now.table.count (allowances_of self.now.table.count (row_at self.now.table.rows) task 1) self.now.state.jobs task units ≡ None) (λ fault. release_fault self.now.accepted self.now.table.count (allowances_of self.now.table.count (row_at self.now.table.rows) task 1) self.now.state.jobs task units ≡ Some fault) }
     {
         if !self.accepted {
-            return Some(Fault::NotAccepted);
+            return Err(Fault::NotAccepted);
         }
         if task < 1 || task > self.table.count() {
-            return Some(Fault::NoSuchNumber);
+            return Err(Fault::NoSuchNumber);
         }
         let most = self.table.allowance(task).unwrap_or(0);
         if units < 1 || units > most {
-            return Some(Fault::UnitsNotAllowed);
+            return Err(Fault::UnitsNotAllowed);
         }
         if steps::left_of(&self.state.jobs, task) > 0 {
-            return Some(Fault::JobPending);
+            return Err(Fault::JobPending);
         }
-        None
+        Ok(())
     }
 
     // Whether a hold is granted to a task.
@@ -157,52 +157,52 @@ impl<G: Source> Run<G> {
         self.state.holder == 0 && highest == task && 1 <= units && units <= longest && units <= left
     }
 
-    // What is wrong with a hold, if anything is.
-    fn hold_fault(&self, task: u32, units: u64) -> Option<Fault>
-        ensures { result ≡ hold_fault self.now.accepted self.now.table.count self.now.limits self.now.state task units }
+    // Looks for what is wrong with a hold.
+    fn check_hold(&self, task: u32, units: u64) -> Result<(), Fault>
+        ensures { MatchResult result (λ _. hold_fault self.now.accepted self.now.table.count self.now.limits self.now.state task units ≡ None) (λ fault. hold_fault self.now.accepted self.now.table.count self.now.limits self.now.state task units ≡ Some fault) }
     {
         if !self.accepted {
-            return Some(Fault::NotAccepted);
+            return Err(Fault::NotAccepted);
         }
         if task < 1 || task > self.table.count() {
-            return Some(Fault::NoSuchNumber);
+            return Err(Fault::NoSuchNumber);
         }
         if !self.grants(task, units) {
-            return Some(Fault::HoldNotGranted);
+            return Err(Fault::HoldNotGranted);
         }
-        None
+        Ok(())
     }
 
-    // What is wrong with letting go, if anything is.
-    fn let_go_fault(&self, task: u32) -> Option<Fault>
-        ensures { result ≡ let_go_fault self.now.accepted self.now.table.count self.now.state task }
+    // Looks for what is wrong with letting go.
+    fn check_let_go(&self, task: u32) -> Result<(), Fault>
+        ensures { MatchResult result (λ _. let_go_fault self.now.accepted self.now.table.count self.now.state task ≡ None) (λ fault. let_go_fault self.now.accepted self.now.table.count self.now.state task ≡ Some fault) }
     {
         if !self.accepted {
-            return Some(Fault::NotAccepted);
+            return Err(Fault::NotAccepted);
         }
         if task < 1 || task > self.table.count() {
-            return Some(Fault::NoSuchNumber);
+            return Err(Fault::NoSuchNumber);
         }
         if self.state.holder != task {
-            return Some(Fault::NothingToEnd);
+            return Err(Fault::NothingToEnd);
         }
-        None
+        Ok(())
     }
 
-    // What is wrong with ending a job, if anything is.
-    fn end_fault(&self, task: u32) -> Option<Fault>
-        ensures { result ≡ end_fault self.now.accepted self.now.table.count self.now.state.jobs task }
+    // Looks for what is wrong with ending a job.
+    fn check_end(&self, task: u32) -> Result<(), Fault>
+        ensures { MatchResult result (λ _. end_fault self.now.accepted self.now.table.count self.now.state.jobs task ≡ None) (λ fault. end_fault self.now.accepted self.now.table.count self.now.state.jobs task ≡ Some fault) }
     {
         if !self.accepted {
-            return Some(Fault::NotAccepted);
+            return Err(Fault::NotAccepted);
         }
         if task < 1 || task > self.table.count() {
-            return Some(Fault::NoSuchNumber);
+            return Err(Fault::NoSuchNumber);
         }
         if steps::left_of(&self.state.jobs, task) < 1 {
-            return Some(Fault::NothingToEnd);
+            return Err(Fault::NothingToEnd);
         }
-        None
+        Ok(())
     }
 }
 
@@ -220,9 +220,7 @@ impl<G: Gate> Run<G> {
         ensures table { self.new.table ≡ self.old.table }
         ensures fixed { (self.new.limits ≡ self.old.limits) × (self.new.accepted ≡ self.old.accepted) × (self.new.parts ≡ self.old.parts) × (self.new.bounds ≡ self.old.bounds) }
     {
-        if let Some(fault) = self.offer_fault(part, units) {
-            return Err(Refusal::plain(fault));
-        }
+        self.check_offer(part, units)?;
         let state = steps::grown(self.state, part, units);
         offer_to(&mut self.bank, part, units);
         self.state = state;
@@ -241,9 +239,8 @@ impl<G: Gate> Run<G> {
         ensures kept { Kept self.old.table.count (demands_of self.old.table.count (row_at self.old.table.rows)) self.new.table.count (demands_of self.new.table.count (row_at self.new.table.rows)) }
         ensures fixed { (self.new.limits ≡ self.old.limits) × (self.new.accepted ≡ self.old.accepted) × (self.new.parts ≡ self.old.parts) × (self.new.bounds ≡ self.old.bounds) }
     {
-        if let Some(fault) = self.release_fault(task, units) {
-            return Err(Refusal::new(fault, 0, task));
-        }
+        self.check_release(task, units)
+            .map_err(|fault| Refusal::new(fault, 0, task))?;
         self.table = given(self.table, task, units);
         self.state = steps::released(self.state, task, units);
         Ok(())
@@ -260,9 +257,8 @@ impl<G: Gate> Run<G> {
         ensures table { self.new.table ≡ self.old.table }
         ensures fixed { (self.new.limits ≡ self.old.limits) × (self.new.accepted ≡ self.old.accepted) × (self.new.parts ≡ self.old.parts) × (self.new.bounds ≡ self.old.bounds) }
     {
-        if let Some(fault) = self.hold_fault(task, units) {
-            return Err(Refusal::new(fault, 0, task));
-        }
+        self.check_hold(task, units)
+            .map_err(|fault| Refusal::new(fault, 0, task))?;
         self.state = steps::granted(self.state, task, units);
         Ok(())
     }
@@ -277,9 +273,8 @@ impl<G: Gate> Run<G> {
         ensures table { self.new.table ≡ self.old.table }
         ensures fixed { (self.new.limits ≡ self.old.limits) × (self.new.accepted ≡ self.old.accepted) × (self.new.parts ≡ self.old.parts) × (self.new.bounds ≡ self.old.bounds) }
     {
-        if let Some(fault) = self.let_go_fault(task) {
-            return Err(Refusal::new(fault, 0, task));
-        }
+        self.check_let_go(task)
+            .map_err(|fault| Refusal::new(fault, 0, task))?;
         self.state = steps::let_go(self.state);
         Ok(())
     }
@@ -294,9 +289,8 @@ impl<G: Gate> Run<G> {
         ensures table { self.new.table ≡ self.old.table }
         ensures fixed { (self.new.limits ≡ self.old.limits) × (self.new.accepted ≡ self.old.accepted) × (self.new.parts ≡ self.old.parts) × (self.new.bounds ≡ self.old.bounds) }
     {
-        if let Some(fault) = self.end_fault(task) {
-            return Err(Refusal::new(fault, 0, task));
-        }
+        self.check_end(task)
+            .map_err(|fault| Refusal::new(fault, 0, task))?;
         self.state = steps::ended(self.state, task);
         Ok(())
     }

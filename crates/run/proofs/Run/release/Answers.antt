@@ -1,6 +1,7 @@
-use Rattle.std.proofs.Common.{arith}
+use Rattle.std.proofs.Common.{rules, ◌≡◌, None, arith}
 use Rattle.source.proofs.Parts.{part_from, offerable_from}
 use Rattle.paced.specs.Tables.{row_at, allowances_of}
+use Rattle.run.specs.Faults.{release_fault}
 use Rattle.run.specs.Steps.{released}
 use Rattle.run.proofs.Faults.{releasable}
 use Rattle.run.proofs.Held.{steady, held_paced}
@@ -15,7 +16,8 @@ given-self-requires g c =
     let u = c.args.units in
     let n = s.table.count in
     let a = allowances_of n (row_at s.table.rows) in
-    let task = releasable s.accepted n (a i 1) s.state.jobs i u c.release_fault.ensures c.in_default.is in
+    let clean : release_fault s.accepted n (a i 1) s.state.jobs i u ≡ None = search rules in
+    let task = releasable s.accepted n (a i 1) s.state.jobs i u clean in
     offerable_from n a i u (part_from n i task.first task.last) task.some task.allowed
 
 pub invariant_of-self : goal.invariant_of-self
@@ -26,7 +28,9 @@ invariant_of-self g c =
     let n = s.table.count in
     let rows = s.table.rows in
     let t = c.given-self.result in
-    let task = releasable s.accepted n (allowances_of n (row_at rows) i 1) s.state.jobs i u c.release_fault.ensures c.in_default.is in
+    let most = allowances_of n (row_at rows) i 1 in
+    let clean : release_fault s.accepted n most s.state.jobs i u ≡ None = search rules in
+    let task = releasable s.accepted n most s.state.jobs i u clean in
     let moved = c.given-self.ensures.gives in
     let paced = given_deadlines s.limits n rows i u t.count t.rows (omega (arith, s.table.held, s.table.few)) moved s.deadlines in
     held_paced s t.count t.rows (released s.state i u) moved.count paced c.released-self.ensures (released_steady s.limits n s.state (steady s) s.some i u task.first task.none) s.some
