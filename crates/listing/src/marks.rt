@@ -99,8 +99,4 @@ impl Marks {
 }
 
 // A listing: that of an accepted plan, or that of a refusal.
-#[derive(Clone, Copy)]
-pub enum Listing {
-    Accepted(Marks),
-    Refused(Refusal),
-}
+pub type Listing = Result<Marks, Refusal>;

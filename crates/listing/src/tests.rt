@@ -28,14 +28,14 @@ fn expect(rt: &impl Abort, listing: &Listing, text: &[u8]) -> Result<(), Fail> {
 #[test]
 fn an_accepted_plan(rt: HostRuntime) -> Result<(), Fail> {
     let mut marks = Marks::new();
-    expect(&rt, &Listing::Accepted(marks), b"accepted 0\n")?;
+    expect(&rt, &Ok(marks), b"accepted 0\n")?;
     assert!(rt; marks.add_part(1000));
     assert!(rt; marks.add_task(mark(11, 15, 500)));
     assert!(rt; marks.add_part(4167));
     assert!(rt; marks.add_task(mark(12, 40, 334)));
     expect(
         &rt,
-        &Listing::Accepted(marks),
+        &Ok(marks),
         b"accepted 2\npart 1 load 1000\npart 2 load 4167\ntask 1 bound 11 deadline 15 load 500\ntask 2 bound 12 deadline 40 load 334\n",
     )
 }
@@ -51,14 +51,14 @@ fn refusals(rt: HostRuntime) -> Result<(), Fail> {
         (Fault::BufferTooShort, 0, b"refused 18 list 0\n"),
     ];
     for (fault, line, text) in table {
-        expect(&rt, &Listing::Refused(Refusal::new(fault, line, 0)), text)?;
+        expect(&rt, &Err(Refusal::new(fault, line, 0)), text)?;
     }
     Ok(())
 }
 
 #[test]
 fn the_shortest_buffer(rt: HostRuntime) -> Result<(), Fail> {
-    let listing = Listing::Refused(Refusal::new(Fault::NoWindow, 5, 2));
+    let listing: Listing = Err(Refusal::new(Fault::NoWindow, 5, 2));
     let mut buffer = [b'.'; 2048];
     let mut short = [b'.'; 2047];
     let refused = write_listing(&mut short, &listing);
@@ -82,7 +82,7 @@ fn the_longest_listing(rt: HostRuntime) -> Result<(), Fail> {
     assert!(rt; !marks.add_task(mark(1, 1, 1)));
     let mut buffer = [b'.'; 2048];
     assert_eq!(rt;
-        write_listing(&mut buffer, &Listing::Accepted(marks))?,
+        write_listing(&mut buffer, &Ok(marks))?,
         1436
     );
     assert!(rt; &buffer[0..45] == b"accepted 16\npart 1 load 18446744073709551615\n".as_slice());

@@ -31,8 +31,8 @@ impl<'a> Text<'a> {
         ensures short { self.new.end ≤ 2048 }
     {
         match listing {
-            Listing::Accepted(marks) => self.put_marks(marks),
-            Listing::Refused(refusal) => self.put_refusal(*refusal),
+            Ok(marks) => self.put_marks(marks),
+            Err(refusal) => self.put_refusal(*refusal),
         }
     }
 }

@@ -6,7 +6,7 @@ ghost use Rattle.std.specs.Prelude.{◌≤◌, length};
 
 use calls::{Answer, Call};
 use guarantee::rehearse;
-use listing::{Listing, ROOM, write_listing};
+use listing::{ROOM, write_listing};
 use paced::rack::Rack;
 use plan::stages::{OpenPlan, Parts};
 use refusal::Refusal;
@@ -135,7 +135,7 @@ fn print_rehearsal(rt: &HostRuntime, view: View, input: &[u8]) -> anyhow::Result
     let text = rest.strip_prefix(b"\n").unwrap_or(rest);
     if let Err(refusal) = read_plan(sheet, &mut plan) {
         let mut buffer = [0; ROOM];
-        if let Ok(count) = write_listing(&mut buffer, &Listing::Refused(refusal)) {
+        if let Ok(count) = write_listing(&mut buffer, &Err(refusal)) {
             rt.stdout().write_all(buffer.get(..count).unwrap_or(&[]))?;
         }
         return Ok(());

@@ -8,23 +8,13 @@ use crate::marking::marked;
 use listing::{Listing, ROOM, write_listing};
 use refusal::{Fault, Refusal};
 
-// What is listed of a sheet. No `From` of such a result: a listing is made of one here alone, and the match says how.
+// What is listed of a sheet, with the laws that nothing else is, and that its lines are the only ones.
 fn listing_of(sheet: &[u8]) -> Listing
-    ensures { Listed sheet.now (listing_text result) }
-{
-    match marked(sheet) {
-        Ok(marks) => Listing::Accepted(marks),
-        Err(refusal) => Listing::Refused(refusal),
-    }
-}
-
-// The same, with the laws that nothing else is listed of it, and that its lines are the only ones.
-fn only_listing_of(sheet: &[u8]) -> Listing
     ensures listed { Listed sheet.now (listing_text result) }
     ensures only { OnlyListed sheet.now }
     ensures lines { OnlyCut 10 sheet.now }
 {
-    listing_of(sheet)
+    marked(sheet)
 }
 
 // Writes the listing of a sheet at the start of a buffer, and says how many bytes it has; the rest of the buffer stays as it
@@ -37,6 +27,6 @@ pub fn list(sheet: &[u8], buffer: &mut [u8]) -> Result<usize, Refusal>
     if buffer.len() < ROOM {
         return Err(Refusal::plain(Fault::BufferTooShort));
     }
-    let listing = only_listing_of(sheet);
+    let listing = listing_of(sheet);
     write_listing(buffer, &listing)
 }

@@ -4,14 +4,14 @@ ghost use Rattle.paced.specs.Loads.{row_load};
 ghost use Rattle.paced.specs.Tables.{row_at};
 ghost use Rattle.plan.specs.Limits.{limit_at};
 ghost use Rattle.plan.specs.declared.verdict.Verdict.{Verdict};
-ghost use Rattle.listing.specs.Listings.{marks_text};
-ghost use Rattle.listing.specs.Texts.{unmarked, refusal_text};
+ghost use Rattle.listing.specs.Listings.{marks_text, listing_text};
+ghost use Rattle.listing.specs.Texts.{unmarked};
 ghost use Rattle.sheet.specs.Marking.{JudgedPlan, Answered, part_load, accepted_plan, Listed};
 ghost use Rattle.sheet.specs.Views.{view};
 
 use crate::draft::Draft;
 use crate::reading::{Finished, read};
-use listing::{Marks, TaskMark};
+use listing::{Listing, Marks, TaskMark};
 use plan::stages::OpenPlan;
 use refusal::Refusal;
 use source::Source;
@@ -85,8 +85,8 @@ fn marks_of(draft: &Draft, bounds: &[u32; 16]) -> Marks
 }
 
 // What is told of a sheet: of its plan if it is accepted, else why it is refused.
-pub(crate) fn marked(sheet: &[u8]) -> Result<Marks, Refusal>
-    ensures { MatchResult result (λ marks. Listed sheet.now (marks_text marks)) (λ e. Listed sheet.now (refusal_text e)) }
+pub(crate) fn marked(sheet: &[u8]) -> Listing
+    ensures { Listed sheet.now (listing_text result) }
 {
     let finished = read(sheet)?;
     let bounds = judged(&finished)?;
