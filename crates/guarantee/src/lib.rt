@@ -34,9 +34,9 @@ pub fn rehearse<G: Gate>(plan: OpenPlan<G>, calls: &[Call], answers: &mut [Answe
 {
     let mut run = Run::start(plan.judge());
     let count = calls.len().min(answers.len());
-    // by place: after `answers.iter_mut().zip(calls)` a proof knows nothing of what stands in the answers
-    for place in 0..count {
-        answers[place] = make(&mut run, calls[place]);
+    // the answers go by place: after `answers.iter_mut().zip(calls)` a proof knows nothing of what stands in them
+    for (place, call) in calls[..count].iter().enumerate() {
+        answers[place] = make(&mut run, *call);
     }
     run
 }

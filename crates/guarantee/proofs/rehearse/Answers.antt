@@ -1,5 +1,5 @@
-use Rattle.std.proofs.Common.{◌≡◌, ℕ, ◌<◌, min, true, cond, get_or, sym, ap, ◌∙◌, subst, arith}
-use Rattle.std.proofs.lemmas.List.{drop-set-lt}
+use Rattle.std.proofs.Common.{◌≡◌, ℕ, ◌<◌, ◌≤◌, min, true, cond, length, take, get_or, sym, ap, ◌∙◌, subst, arith}
+use Rattle.std.proofs.lemmas.List.{drop-set-lt, get_or-take, length-take-le}
 use Rattle.paced.specs.Pace.{Fit}
 use Rattle.paced.specs.Tables.{row_at}
 use Rattle.run.specs.States.{at_start, is_accepted}
@@ -25,15 +25,20 @@ loop-place-preserved g c =
     let here : Fixed = record { accepted = run.accepted; parts = run.parts; tasks = run.table.count; limits = run.limits } in
     let there : Fixed = record { accepted = first.accepted; parts = first.parts; tasks = first.table.count; limits = first.limits } in
     let same : here ≡ there = λ k. record { accepted = inv.accepted k; parts = inv.parts k; tasks = inv.tasks k; limits = inv.limits k } in
-    let did = subst (λ f. Did g.G.Source.allowed g.G.Gate.takes g.G.Gate.ticks f (get_or c.args.calls.now i (Offer 0 0)) c.make.result now next) same c.make.ensures.did in
+    let calls = c.args.calls.now in
+    let n = c.min-count.result in
+    let within : n ≤ length calls = omega arith in
+    let cut : length (take n calls) ≡ n = length-take-le n calls within in
+    let looked = subst (λ f. Did g.G.Source.allowed g.G.Gate.takes g.G.Gate.ticks f (get_or (take n calls) i (Offer 0 0)) c.make.result now next) same c.make.ensures.did in
+    let did = subst (λ x. Did g.G.Source.allowed g.G.Gate.takes g.G.Gate.ticks there x c.make.result now next) (get_or-take n calls i (Offer 0 0) (omega (arith, cut))) looked in
     record {
-      played = played_more g.G.Source.allowed g.G.Gate.takes g.G.Gate.ticks there c.args.calls.now c.loop-place.answers i (Offer 0 0) c.make.result start now next (omega arith) (omega arith) inv.played did;
+      played = played_more g.G.Source.allowed g.G.Gate.takes g.G.Gate.ticks there c.args.calls.now c.loop-place.answers i (Offer 0 0) c.make.result start now next (omega (arith, cut)) (omega (arith, cut)) inv.played did;
       accepted = fixed.1 ∙ inv.accepted;
       parts = fixed.2 ∙ inv.parts;
       tasks = fixed.4 ∙ inv.tasks;
       limits = fixed.0 ∙ inv.limits;
       bounds = fixed.3 ∙ inv.bounds;
-      rest = λ k h. drop-set-lt k c.loop-place.answers i c.make.result (omega arith) ∙ inv.rest k (omega arith);
+      rest = λ k h. drop-set-lt k c.loop-place.answers i c.make.result (omega (arith, cut)) ∙ inv.rest k (omega arith);
     }
 
 pub returns-clause-played : goal.returns-clause-played
@@ -46,7 +51,9 @@ returns-clause-played g c =
     let there : Fixed = record { accepted = first.accepted; parts = first.parts; tasks = first.table.count; limits = first.limits } in
     let start : Now g.row.G.Denot = record { bank = first.bank; rows = first.table.rows; state = first.state } in
     let end : Now g.row.G.Denot = record { bank = run.bank; rows = run.table.rows; state = run.state } in
-    let whole = played_whole g.G.Source.allowed g.G.Gate.takes g.G.Gate.ticks there c.args.calls.now c.loop-place.answers c.loop-place.place start end (omega arith) inv.played in
+    let n = c.min-count.result in
+    let within : n ≤ length c.args.calls.now = omega arith in
+    let whole = played_whole g.G.Source.allowed g.G.Gate.takes g.G.Gate.ticks there c.args.calls.now c.loop-place.answers c.loop-place.place start end (omega (arith, length-take-le n c.args.calls.now within)) inv.played in
     let tasks = c.judge.ensures.tasks in
     let bank : first.bank ≡ plan.bank = begins.bank ∙ c.judge.ensures.bank in
     let rows : first.table.rows ≡ plan.tasks.parts.rows = ap (λ t. t.rows) begins.table ∙ ap (λ t. t.parts.rows) tasks in
