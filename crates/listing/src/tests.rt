@@ -81,10 +81,7 @@ fn the_longest_listing(rt: HostRuntime) -> Result<(), Fail> {
     assert!(rt; !marks.add_part(1));
     assert!(rt; !marks.add_task(mark(1, 1, 1)));
     let mut buffer = [b'.'; 2048];
-    assert_eq!(rt;
-        write_listing(&mut buffer, &Ok(marks))?,
-        1436
-    );
+    assert_eq!(rt; write_listing(&mut buffer, &Ok(marks))?, 1436);
     assert!(rt; &buffer[0..45] == b"accepted 16\npart 1 load 18446744073709551615\n".as_slice());
     let last: &[u8] = b"task 16 bound 4294967295 deadline 4294967295 load 18446744073709551615\n..";
     assert!(rt; &buffer[1365..1438] == last);
