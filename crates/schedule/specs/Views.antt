@@ -1,6 +1,6 @@
 -- A schedule owes what a source and a gate owe.
 -- Lemmas only, which laws of traits cite; a reader of the definitions can pass over them.
-use Rattle.std.specs.Prelude.{◌≡◌, ℕ, zero, suc, ◌+◌, ◌-◌, ◌*◌, ◌/◌, ◌%◌, ◌<◌, ◌≤◌, true, cond, List, length, get_or, take, ◌==◌, slice_index_or}
+use Rattle.std.specs.Prelude.{◌≡◌, ℕ, zero, suc, ◌+◌, ◌*◌, ◌/◌, ◌%◌, ◌<◌, ◌≤◌, true, cond, List, length, take, ◌==◌, slice_index_or}
 use Rattle.std.proofs.Common.{sym, ap, ◌∙◌, subst, arith, add-one, inl, inr}
 use Rattle.std.proofs.Math.Path.{fun_ext}
 use Rattle.std.proofs.lemmas.Bool.{cond_both, cases_lt}
@@ -86,36 +86,33 @@ view_offered v k u e some within = offerable_from 1 (single (allowance v)) k u (
 
 -- the pairs in use, as a part `slots[0..n]` has them
 module _ (slots : List Slot) (n : ℕ) (short : n ≤ length slots) where
-  front_is : take (n - 0) slots ≡ take n slots
-  front_is = let same : n - 0 ≡ n = omega arith in ap (λ k. take k slots) same
+  pub front_length : length (take n slots) ≡ n
+  front_length = length-take-le n slots short
 
-  pub front_length : length (take (n - 0) slots) ≡ n
-  front_length = ap length front_is ∙ length-take-le n slots short
+  pub front_at : (i : ℕ) → i < n → slice_index_or (take n slots) i none ≡ slice_index_or slots i none
+  front_at i h = get_or-take n slots i none h
 
-  pub front_at : (i : ℕ) → i < n → slice_index_or (take (n - 0) slots) i none ≡ slice_index_or slots i none
-  front_at i h = ap (λ ys. get_or ys i none) front_is ∙ get_or-take n slots i none h
+  pub front_length_at : (p : ℕ) → length_at (length (take n slots)) (take n slots) p ≡ length_at n slots p
+  front_length_at p = ap (λ k. length_at k (take n slots) p) front_length ∙ sum_same (if_at (take n slots) p) (if_at slots p) n (λ i h. ap (λ s. cond (s.offset == p) s.length 0) (front_at i h))
 
-  pub front_length_at : (p : ℕ) → length_at (length (take (n - 0) slots)) (take (n - 0) slots) p ≡ length_at n slots p
-  front_length_at p = ap (λ k. length_at k (take (n - 0) slots) p) front_length ∙ sum_same (if_at (take (n - 0) slots) p) (if_at slots p) n (λ i h. ap (λ s. cond (s.offset == p) s.length 0) (front_at i h))
-
-  pub front_largest : (c l : ℕ) → top (lengths_met c (length (take (n - 0) slots)) (take (n - 0) slots) l) c ≡ top (lengths_met c n slots l) c
+  pub front_largest : (c l : ℕ) → top (lengths_met c (length (take n slots)) (take n slots) l) c ≡ top (lengths_met c n slots l) c
   front_largest c l = ap (λ f. top (λ p. met c f p l) c) (fun_ext front_length_at)
 
-  front_every : (P : Slot → Type 0) → P none → ((i : ℕ) → P (slice_index_or slots i none)) → (i : ℕ) → P (slice_index_or (take (n - 0) slots) i none)
-  front_every P past each i = elim (cases_lt i n) [ inl l ↦ subst P (sym (front_at i l)) (each i) | inr g ↦ subst P (sym (get_or_past (take (n - 0) slots) i none (omega (arith, front_length)))) past ]
+  front_every : (P : Slot → Type 0) → P none → ((i : ℕ) → P (slice_index_or slots i none)) → (i : ℕ) → P (slice_index_or (take n slots) i none)
+  front_every P past each i = elim (cases_lt i n) [ inl l ↦ subst P (sym (front_at i l)) (each i) | inr g ↦ subst P (sym (get_or_past (take n slots) i none (omega (arith, front_length)))) past ]
 
-  pub front_offsets : ((i : ℕ) → offset_of slots i ≤ 1000000) → (i : ℕ) → offset_of (take (n - 0) slots) i ≤ 1000000
+  pub front_offsets : ((i : ℕ) → offset_of slots i ≤ 1000000) → (i : ℕ) → offset_of (take n slots) i ≤ 1000000
   front_offsets h i = front_every (λ s. s.offset ≤ 1000000) (omega arith) h i
 
-  pub front_lengths : ((i : ℕ) → length_of slots i ≤ 1000000) → (i : ℕ) → length_of (take (n - 0) slots) i ≤ 1000000
+  pub front_lengths : ((i : ℕ) → length_of slots i ≤ 1000000) → (i : ℕ) → length_of (take n slots) i ≤ 1000000
   front_lengths h i = front_every (λ s. s.length ≤ 1000000) (omega arith) h i
 
-  pub front_rising : ((i j : ℕ) → i < j → j < n → offset_of slots i < offset_of slots j) → (i j : ℕ) → i < j → j < length (take (n - 0) slots) → offset_of (take (n - 0) slots) i < offset_of (take (n - 0) slots) j
+  pub front_rising : ((i j : ℕ) → i < j → j < n → offset_of slots i < offset_of slots j) → (i j : ℕ) → i < j → j < length (take n slots) → offset_of (take n slots) i < offset_of (take n slots) j
   front_rising h i j l m =
       let within : j < n = omega (arith, front_length) in
       omega (arith, h i j l within, ap (λ s. s.offset) (front_at i (omega arith)), ap (λ s. s.offset) (front_at j within))
 
-  pub front_below : (c : ℕ) → ((i : ℕ) → i < n → offset_of slots i < c) → (i : ℕ) → i < length (take (n - 0) slots) → offset_of (take (n - 0) slots) i < c
+  pub front_below : (c : ℕ) → ((i : ℕ) → i < n → offset_of slots i < c) → (i : ℕ) → i < length (take n slots) → offset_of (take n slots) i < c
   front_below c h i l =
       let within : i < n = omega (arith, front_length) in
       omega (arith, h i within, ap (λ s. s.offset) (front_at i within))

@@ -1,5 +1,5 @@
 // The fixed schedule of functions that a panel repeats.
-ghost use Rattle.std.specs.Prelude.{◌≡◌, ℕ, ◌+◌, ◌-◌, ◌*◌, ◌<◌, ◌≤◌, true, false, cond, ◌&&◌, length as size, set, replicate, Some, None, MatchResult};
+ghost use Rattle.std.specs.Prelude.{◌≡◌, ℕ, ◌+◌, ◌-◌, ◌*◌, ◌<◌, ◌≤◌, true, false, cond, ◌&&◌, length as size, take, set, replicate, Some, None, MatchResult};
 ghost use Rattle.cycles.specs.Round.{sum, next};
 ghost use Rattle.loads.specs.Share.{load_of};
 ghost use Rattle.source.specs.Facts.{is_part, single, offerable, Sound, Kept, Taken, Ticked, Driven};
@@ -7,7 +7,7 @@ ghost use Rattle.schedule.specs.Makes.{cycle_fault, pair_fault};
 ghost use Rattle.schedule.specs.Phases.{none, offset_of, length_of, demand, allowance, later, Gives, View};
 ghost use Rattle.schedule.specs.Views.{view_sound, view_taken, view_ticked};
 
-use crate::slot::{Slot, largest_met, length_now};
+use crate::slot::{Round, Slot};
 use cycles::step;
 use loads::load;
 use refusal::{Fault, Refusal};
@@ -91,13 +91,23 @@ impl Schedule {
         load(self.whole, self.cycle)
     }
 
+    // Its pairs in use, and its cycle.
+    fn round(&self) -> Round<'_>
+        ensures slots { result.slots.now ≡ take self.now.count self.now.slots }
+        ensures cycle { result.cycle ≡ self.now.cycle }
+    {
+        Round {
+            slots: &self.slots[..self.count as usize],
+            cycle: self.cycle,
+        }
+    }
+
     // The largest sum of lengths met in `ticks` ticks, from any phase on.
     fn largest(&self, ticks: u32) -> u64
         ensures { result ≡ demand (record { cycle = self.now.cycle; count = self.now.count; slots = self.now.slots; phase = self.now.phase; taken = self.now.taken }) ticks }
     {
-        let slots = &self.slots[0..self.count as usize];
         let cycles = ticks / self.cycle;
-        let rest = largest_met(slots, self.cycle, ticks % self.cycle);
+        let rest = self.round().largest_met(ticks % self.cycle);
         u64::from(cycles) * u64::from(self.whole) + u64::from(rest)
     }
 
@@ -115,7 +125,7 @@ impl Schedule {
         if self.taken {
             return 0;
         }
-        length_now(&self.slots[0..self.count as usize], self.phase)
+        self.round().length_at(self.phase)
     }
 }
 

@@ -11,25 +11,6 @@ pub struct Slot {
     pub length: u32,
 }
 
-// The pair at a place of two cycles in a row.
-fn slot_at(slots: &[Slot], cycle: u32, place: usize) -> Slot
-    requires within { place < length slots.now + length slots.now }
-    requires small { (i : ℕ) → offset_of slots.now i ≤ 1000000 }
-    requires cycle { cycle ≤ 1000000 }
-    ensures offset { result.offset ≡ offset_twice slots.now cycle place }
-    ensures length { result.length ≡ units_twice slots.now place }
-{
-    if place < slots.len() {
-        slots[place]
-    } else {
-        let slot = slots[place - slots.len()];
-        Slot {
-            offset: slot.offset + cycle,
-            length: slot.length,
-        }
-    }
-}
-
 // How far a window reaches: the places before `end`, of two cycles in a row, lie within it, and their lengths come to
 // `sum`.
 #[derive(Clone, Copy)]
@@ -38,66 +19,87 @@ struct Reach {
     sum: u32,
 }
 
-// The same window with its end moved on to `until`, but not past the place `limit`.
-fn moved_on(slots: &[Slot], cycle: u32, mut reach: Reach, until: u32, limit: usize) -> Reach
-    requires limit { limit ≤ length slots.now + length slots.now }
-    requires few { length slots.now ≤ 64 }
-    requires end { reach.end ≤ limit }
-    requires sum { reach.sum ≡ sum (units_twice slots.now) reach.end }
-    requires before { (j : ℕ) → j < reach.end → offset_twice slots.now cycle j < until }
-    requires offsets { (i : ℕ) → offset_of slots.now i ≤ 1000000 }
-    requires lengths { (i : ℕ) → length_of slots.now i ≤ 1000000 }
-    requires cycle { cycle ≤ 1000000 }
-    ensures end { result.end ≤ limit }
-    ensures sum { result.sum ≡ sum (units_twice slots.now) result.end }
-    ensures before { (j : ℕ) → j < result.end → offset_twice slots.now cycle j < until }
-    ensures after { result.end < limit → until ≤ offset_twice slots.now cycle result.end }
-{
-    while reach.end < limit {
-        let slot = slot_at(slots, cycle, reach.end);
-        if slot.offset >= until {
-            return reach;
-        }
-        reach.sum += slot.length;
-        reach.end += 1;
-    }
-    reach
+// The pairs in use and the cycle that they lie in: the offsets strictly rise and are below the cycle.
+#[derive(Clone, Copy)]
+pub(crate) struct Round<'a> {
+    pub(crate) slots: &'a [Slot],
+    pub(crate) cycle: u32,
+    ghost few: { length slots.now ≤ 64 },
+    ghost short: { cycle ≤ 1000000 },
+    ghost rising: { (i j : ℕ) → i < j → j < length slots.now → offset_of slots.now i < offset_of slots.now j },
+    ghost below: { (i : ℕ) → i < length slots.now → offset_of slots.now i < cycle },
+    ghost offsets: { (i : ℕ) → offset_of slots.now i ≤ 1000000 },
+    ghost lengths: { (i : ℕ) → length_of slots.now i ≤ 1000000 },
 }
 
-// The largest sum of lengths met in `ticks` ticks, fewer than the cycle has, from any phase on: the largest from a pair.
-pub(crate) fn largest_met(slots: &[Slot], cycle: u32, ticks: u32) -> u32
-    requires few { length slots.now ≤ 64 }
-    requires rising { (i j : ℕ) → i < j → j < length slots.now → offset_of slots.now i < offset_of slots.now j }
-    requires below { (i : ℕ) → i < length slots.now → offset_of slots.now i < cycle }
-    requires offsets { (i : ℕ) → offset_of slots.now i ≤ 1000000 }
-    requires lengths { (i : ℕ) → length_of slots.now i ≤ 1000000 }
-    requires cycle { cycle ≤ 1000000 }
-    requires ticks { ticks < cycle }
-    ensures { result ≡ top (lengths_met cycle (length slots.now) slots.now ticks) cycle }
-{
-    let size = slots.len();
-    let mut best = 0;
-    let mut passed = 0;
-    let mut reach = Reach { end: 0, sum: 0 };
-    for (start, slot) in slots.iter().enumerate() {
-        reach = moved_on(slots, cycle, reach, slot.offset + ticks, size + start);
-        best = best.max(reach.sum - passed);
-        passed += slot.length;
-    }
-    best
-}
-
-// The length at a phase: that of the pair there, or 0.
-pub(crate) fn length_now(slots: &[Slot], phase: u32) -> u32
-    requires few { length slots.now ≤ 64 }
-    requires lengths { (i : ℕ) → length_of slots.now i ≤ 1000000 }
-    ensures { result ≡ length_at (length slots.now) slots.now phase }
-{
-    let mut found = 0;
-    for slot in slots {
-        if slot.offset == phase {
-            found += slot.length;
+impl<'a> Round<'a> {
+    // The pair at a place of two cycles in a row.
+    fn slot_at(&self, place: usize) -> Slot
+        requires { place < length self.now.slots.now + length self.now.slots.now }
+        ensures offset { result.offset ≡ offset_twice self.now.slots.now self.now.cycle place }
+        ensures length { result.length ≡ units_twice self.now.slots.now place }
+    {
+        if place < self.slots.len() {
+            self.slots[place]
+        } else {
+            let slot = self.slots[place - self.slots.len()];
+            Slot {
+                offset: slot.offset + self.cycle,
+                ..slot
+            }
         }
     }
-    found
+
+    // The same window with its end moved on to `until`, but not past the place `limit`.
+    fn moved_on(&self, mut reach: Reach, until: u32, limit: usize) -> Reach
+        requires limit { limit ≤ length self.now.slots.now + length self.now.slots.now }
+        requires end { reach.end ≤ limit }
+        requires sum { reach.sum ≡ sum (units_twice self.now.slots.now) reach.end }
+        requires before { (j : ℕ) → j < reach.end → offset_twice self.now.slots.now self.now.cycle j < until }
+        ensures end { result.end ≤ limit }
+        ensures sum { result.sum ≡ sum (units_twice self.now.slots.now) result.end }
+        ensures before { (j : ℕ) → j < result.end → offset_twice self.now.slots.now self.now.cycle j < until }
+        ensures after { result.end < limit → until ≤ offset_twice self.now.slots.now self.now.cycle result.end }
+    {
+        // the end moves on from one call to the next, so it is a place and no iterator
+        while reach.end < limit {
+            let slot = self.slot_at(reach.end);
+            if slot.offset >= until {
+                return reach;
+            }
+            reach.sum += slot.length;
+            reach.end += 1;
+        }
+        reach
+    }
+
+    // The largest sum of lengths met in `ticks` ticks, fewer than the cycle has, from any phase on: the largest from a pair.
+    pub(crate) fn largest_met(&self, ticks: u32) -> u32
+        requires { ticks < self.now.cycle }
+        ensures { result ≡ top (lengths_met self.now.cycle (length self.now.slots.now) self.now.slots.now ticks) self.now.cycle }
+    {
+        let size = self.slots.len();
+        let mut best = 0;
+        let mut passed = 0;
+        let mut reach = Reach { end: 0, sum: 0 };
+        for (start, slot) in self.slots.iter().enumerate() {
+            reach = self.moved_on(reach, slot.offset + ticks, size + start);
+            best = best.max(reach.sum - passed);
+            passed += slot.length;
+        }
+        best
+    }
+
+    // The length at a phase: that of the pair there, or 0, which is how much may be offered where there is none.
+    pub(crate) fn length_at(&self, phase: u32) -> u32
+        ensures { result ≡ length_at (length self.now.slots.now) self.now.slots.now phase }
+    {
+        let mut found = 0;
+        for slot in self.slots {
+            if slot.offset == phase {
+                found += slot.length;
+            }
+        }
+        found
+    }
 }
