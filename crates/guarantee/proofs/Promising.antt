@@ -1,5 +1,5 @@
 -- A run of an acceptable plan keeps its promise.
-use Rattle.std.proofs.Common.{◌≡◌, ℕ, ◌+◌, ◌-◌, ◌<◌, ◌≤◌, Bool, true, false, cond, leb, List, length, get_or, replicate, refl, ap, inl, inr, arith}
+use Rattle.std.proofs.Common.{◌≡◌, ℕ, ◌+◌, ◌-◌, ◌<◌, ◌≤◌, Bool, true, false, cond, leb, List, length, get_or, replicate, Some, refl, ap, inl, inr, arith}
 use Rattle.std.proofs.lemmas.Bool.{cond-true, le-leb, cases_lt}
 use Rattle.std.proofs.lemmas.List.{get_or-replicate, length-replicate}
 use Rattle.std.proofs.Math.ListN.{get_or-eq_default}
@@ -22,6 +22,7 @@ use Rattle.run.specs.States.{no_job, at_start, hold_of, is_accepted}
 use Rattle.guarantee.specs.Playing.{Now, Played}
 use Rattle.guarantee.specs.Promise.{Acceptable, Modelled, begun}
 use Rattle.guarantee.specs.Views.{plan_of, view_of}
+use Rattle.run.proofs.Steady.{nothing}
 use Rattle.guarantee.proofs.Linking.{Inside, leads, fits}
 use Rattle.guarantee.proofs.Steady.{steady_start}
 
@@ -72,7 +73,7 @@ module _ {S : Type 0} (parts : S → ℕ) (demanded allowed : S → ℕ → ℕ 
       }
 
   inside : Inside parts demanded (parts bank) (demanded bank) m rows (begun bank rows)
-  inside = record { parts_are = refl; demand_is = refl; steady = steady_start m rows room fit; backlogs = refl; jobs = refl; holder = omega arith }
+  inside = record { parts_are = refl; demand_is = refl; steady = steady_start m rows room fit; backlogs = refl; jobs = refl; whose = λ h e. nothing e }
 
   fresh : model.Fresh (view_of (allowed bank) m rows at_start)
   fresh =
@@ -85,7 +86,7 @@ module _ {S : Type 0} (parts : S → ℕ) (demanded allowed : S → ℕ → ℕ 
       }
 
   -- whatever the calls, they lead from the start of the model's run to its end
-  pub modelled : (calls : List Call) (as' : List Answer) (t : Now S) → Played allowed takes ticks (record { accepted = true; parts = parts bank; tasks = m; limits = limits }) calls as' (begun bank rows) t → Modelled plan (view_of (allowed bank) m rows at_start) (view_of (allowed t.bank) m t.rows t.state) (log_of calls as')
+  pub modelled : (calls : List Call) (as' : List Answer) (t : Now S) → Played allowed takes ticks (record { parts = Some (parts bank); tasks = m; limits = limits }) calls as' (begun bank rows) t → Modelled plan (view_of (allowed bank) m rows at_start) (view_of (allowed t.bank) m t.rows t.state) (log_of calls as')
   modelled calls as' t played =
       let bounded : (i : ℕ) → i < m → get_or bounds i 0 ≤ (limit_at limits i).deadline = λ i h. (right.1 i h).1 in
       record {

@@ -1,18 +1,19 @@
 -- The steps of a run, as the model has them: what is done to the state of a run is what the model's step says.
-use Rattle.std.proofs.Common.{◌≡◌, ℕ, ◌+◌, ◌-◌, ◌≤◌, cond, eqb, List, length, set, sym, refl, ap, ◌∙◌, inl, inr, arith}
-use Rattle.std.proofs.lemmas.Bool.{cond-true, cond-false, cond_both, ne_eqb, cases_eq}
+use Rattle.std.proofs.Common.{◌≡◌, ℕ, ◌+◌, ◌-◌, ◌≤◌, Bool, true, false, cond, eqb, List, length, set, Option, Some, None, sym, refl, ap, ◌∙◌, inl, inr}
+use Rattle.std.proofs.lemmas.Bool.{cond-false, ne_eqb, cases_eq}
 use Rattle.source.specs.Facts.{Taken}
 use Rattle.paced.specs.declared.row.Row.{Row}
 use Rattle.plan.specs.declared.tasks.Limit.{Limit}
 use Rattle.calls.specs.Steps.{Offered, Released, Granted, LetGone, Ended}
-use Rattle.run.specs.States.{no_job, backlog_of, left_of, age_of}
-use Rattle.run.specs.Steps.{grown, released, granted, let_go, removed, ended}
+use Rattle.run.specs.States.{no_job, backlog_of, left_of, age_of, holder, holder_in, held_in, holds}
+use Rattle.run.specs.Steps.{grown, released, granted, let_go, ended}
+use Rattle.run.specs.declared.state.Hold.{Hold}
 use Rattle.run.specs.declared.state.Job.{Job}
 use Rattle.run.specs.declared.state.State.{State}
 use Rattle.paced.specs.Tables.{row_at, allowances_of}
 use Rattle.guarantee.specs.Views.{plan_of, view_of}
 use Rattle.run.proofs.Faults.{Holdable, Releasable}
-use Rattle.run.proofs.Firsts.{first}
+use Rattle.run.proofs.Firsts.{pending_found}
 use Rattle.run.proofs.Numbered.{numbered_set}
 
 module _ (m : ℕ) (rows : List Row) (s : State) where
@@ -38,28 +39,43 @@ module _ (m : ℕ) (rows : List Row) (s : State) where
   pub ended_age : (i j : ℕ) → 1 ≤ i → i ≤ length s.jobs → age_of (set s.jobs (i - 1) no_job) j ≡ cond (eqb j i) 0 (age_of s.jobs j)
   ended_age i j some within = numbered_set no_job (λ x. x.age) s.jobs i no_job j some within
 
-  pub let_go_step : (a : ℕ → ℕ → ℕ) (i : ℕ) → s.holder ≡ i → LetGone (view_of a m rows s) i (view_of a m rows (let_go s))
-  let_go_step a i holds = record { holds = holds; rest = refl }
+  pub let_go_step : (a : ℕ → ℕ → ℕ) (i : ℕ) → holder s ≡ i → LetGone (view_of a m rows s) i (view_of a m rows (let_go s))
+  let_go_step a i holding = record { holds = holding; rest = refl }
+
+  -- what is told of a hold is 0 where the job of its task is ended
+  told_ended : (f : Option Hold → ℕ) → f None ≡ 0 → (i : ℕ) (o : Option Hold) → f (cond (holds o i) None o) ≡ cond (eqb (holder_in o) i) 0 (f o)
+  told_ended f none i None = none ∙ sym (either (eqb 0 i))
+    where
+      either : (b : Bool) → cond b 0 (f None) ≡ 0
+      either true = refl
+      either false = none
+  told_ended f none i (Some h) = go (eqb h.task i)
+    where
+      go : (b : Bool) → f (cond b None (Some h)) ≡ cond b 0 (f (Some h))
+      go true = none
+      go false = refl
 
   pub ended_step : (a : ℕ → ℕ → ℕ) (i : ℕ) → 1 ≤ i → i ≤ length s.jobs → 1 ≤ left_of s.jobs i → Ended (view_of a m rows s) i (view_of a m rows (ended s i))
   ended_step a i some within pending =
-      cond_both (eqb s.holder i) (let_go (removed s i)) (removed s i) (λ t. Ended (view_of a m rows s) i (view_of a m rows t))
-      (λ e. left_with 0 0 (sym (cond-true (eqb s.holder i) 0 s.holder e)) (sym (cond-true (eqb s.holder i) 0 s.held e)))
-      (λ e. left_with s.holder s.held (sym (cond-false (eqb s.holder i) 0 s.holder e)) (sym (cond-false (eqb s.holder i) 0 s.held e)))
-    where
-      left_with : (holder held : ℕ) → holder ≡ cond (eqb s.holder i) 0 s.holder → held ≡ cond (eqb s.holder i) 0 s.held → Ended (view_of a m rows s) i (view_of a m rows (record { backlogs = s.backlogs; jobs = set s.jobs (i - 1) no_job; holder = holder; held = held }))
-      left_with _ _ holder held = record { pending = pending; left = λ j. ended_left i j some within; age = λ j. ended_age i j some within; holder = holder; held = held; rest = refl }
+      record {
+        pending = pending;
+        left = λ j. ended_left i j some within;
+        age = λ j. ended_age i j some within;
+        holder = told_ended (λ o. holder_in o) refl i s.hold;
+        held = told_ended (λ o. held_in o) refl i s.hold;
+        rest = refl;
+      }
 
-  pub granted_step : (start : List Row) (n : ℕ) (d a : ℕ → ℕ → ℕ) (limits : List Limit) (bounds : List ℕ) (i u : ℕ) → Holdable m limits s i u → Granted (plan_of n d m start limits bounds) (view_of a m rows s) i u (view_of a m rows (granted s i u))
-  granted_step start n d a limits bounds i u task =
+  pub granted_step : (start : List Row) (n : ℕ) (d a : ℕ → ℕ → ℕ) (limits : List Limit) (bounds : List ℕ) (i u : ℕ) → m ≤ length s.jobs → Holdable m limits s i u → Granted (plan_of n d m start limits bounds) (view_of a m rows s) i u (view_of a m rows (granted s i u))
+  granted_step start n d a limits bounds i u places task =
       record {
         first = task.first;
         last = task.last;
-        nobody = task.nobody;
+        nobody = ap (λ o. holder_in o) task.nobody;
         some = task.some;
         short = task.short;
         within = task.within;
-        highest = λ j a b. (first (left_of s.jobs) m).before j a (omega (arith, task.highest));
+        highest = (pending_found s.jobs m i places task.highest).before;
         rest = refl;
       }
 

@@ -1,6 +1,8 @@
 -- A tick of a run is a tick of the model.
-use Rattle.std.proofs.Common.{◌≡◌, ℕ, ◌+◌, ◌-◌, ◌<◌, ◌≤◌, min, Bool, true, false, cond, eqb, leb, ◌&&◌, List, map, length, get_or, ◌⊎◌, Option, sym, refl, ap, ◌∙◌, subst, inl, inr, arith, length-set}
-use Rattle.std.proofs.lemmas.Bool.{cond-true, cond-false, cond_both, eq-eqb, ne_eqb, leb-true, leb-false, cases_eq}
+use Rattle.std.proofs.Common.{◌≡◌, ℕ, ◌+◌, ◌-◌, ◌<◌, ◌≤◌, min, Bool, true, false, cond, eqb, leb, ◌&&◌, List, map, length, get_or, ◌⊎◌, Option, Some, None, sym, refl, ap, ◌∙◌, inl, inr, arith, length-set}
+use Rattle.std.specs.Option.{ForSome, option_or}
+use Rattle.std.specs.Prelude.{option_map}
+use Rattle.std.proofs.lemmas.Bool.{cond-true, cond-false, eq-eqb, ne_eqb, cases_eq}
 use Rattle.std.proofs.Math.ListN.{get_or-map}
 use Rattle.std.proofs.lemmas.List.{length-map}
 use Rattle.source.specs.Facts.{Ticked}
@@ -10,13 +12,14 @@ use Rattle.plan.specs.declared.tasks.Limit.{Limit}
 use Rattle.calls.specs.declared.Got.{Got}
 use Rattle.calls.specs.declared.Got.TheVariants.{Nobody, Part, Task}
 use Rattle.calls.specs.Steps.{part_unit, task_unit, Due, AgeTold, Idle, Passed}
-use Rattle.run.specs.States.{no_job, backlog_of, left_of, age_of, first_at}
-use Rattle.run.specs.Steps.{part_served, task_served, served, worked, older, aged, settled, passed, due, due_task, foremost, told_age, let_go}
+use Rattle.run.specs.States.{no_job, backlog_of, left_of, age_of, holder, held, holder_in, held_in, first_backlog, first_pending}
+use Rattle.run.specs.Steps.{part_served, task_served, served, worked, used, older, aged, goes_on, going_on, settled, passed, due, due_first, due_task, foremost, told_age}
+use Rattle.run.specs.declared.state.Hold.{Hold}
 use Rattle.run.specs.declared.state.Job.{Job}
 use Rattle.run.specs.declared.state.State.{State}
 use Rattle.guarantee.specs.Views.{plan_of, view_of}
-use Rattle.run.proofs.Firsts.{first}
-use Rattle.run.proofs.Steady.{left_older}
+use Rattle.run.proofs.Firsts.{First, backlog_found, backlogs_clear, pending_found, jobs_clear}
+use Rattle.run.proofs.Steady.{after_use, after_tick, left_older}
 use Rattle.run.proofs.Numbered.{numbered_set, numbered_some}
 
 older_age : (j : Job) → (older j).age ≡ cond (leb 1 j.left) (min (j.age + 1) 4294967295) 0
@@ -33,34 +36,28 @@ aged_age jobs i = ap (λ x. cond (leb 1 i) x 0) (ap (λ j. j.age) (get_or-map ol
     go true = refl
     go false = refl
 
--- what is settled is the hold alone
-module _ (s : State) where
-  settled_as : {A : Type 0} (f : State → A) → f (settled s) ≡ cond (leb 1 s.held && leb 1 (left_of s.jobs s.holder)) (f s) (f (let_go s))
-  settled_as f = go (leb 1 s.held && leb 1 (left_of s.jobs s.holder))
-    where
-      go : (b : Bool) → f (cond b s (let_go s)) ≡ cond b (f s) (f (let_go s))
-      go true = refl
-      go false = refl
+-- what is told of a hold is 0 where it does not go on
+told_settled : (f : Option Hold → ℕ) → f None ≡ 0 → (jobs : List Job) (o : Option Hold) → f (going_on jobs o) ≡ cond (leb 1 (held_in o) && leb 1 (left_of jobs (holder_in o))) (f o) 0
+told_settled f none jobs None = none
+told_settled f none jobs (Some h) = go (goes_on jobs h)
+  where
+    go : (b : Bool) → f (cond b (Some h) None) ≡ cond b (f (Some h)) 0
+    go true = refl
+    go false = none
 
-  settled_backlogs : (settled s).backlogs ≡ s.backlogs
-  settled_backlogs = cond_both (leb 1 s.held && leb 1 (left_of s.jobs s.holder)) s (let_go s) (λ t. t.backlogs ≡ s.backlogs) (λ e. refl) (λ e. refl)
+settled_holder : (s : State) → holder (settled s) ≡ cond (leb 1 (held s) && leb 1 (left_of s.jobs (holder s))) (holder s) 0
+settled_holder s = told_settled (λ o. holder_in o) refl s.jobs s.hold
 
-  settled_jobs : (settled s).jobs ≡ s.jobs
-  settled_jobs = cond_both (leb 1 s.held && leb 1 (left_of s.jobs s.holder)) s (let_go s) (λ t. t.jobs ≡ s.jobs) (λ e. refl) (λ e. refl)
-
-  settled_holder : (settled s).holder ≡ cond (leb 1 s.held && leb 1 (left_of s.jobs s.holder)) s.holder 0
-  settled_holder = settled_as (λ t. t.holder)
-
-  settled_held : (settled s).held ≡ cond (leb 1 s.held && leb 1 (left_of s.jobs s.holder)) s.held 0
-  settled_held = settled_as (λ t. t.held)
+settled_held : (s : State) → held (settled s) ≡ cond (leb 1 (held s) && leb 1 (left_of s.jobs (holder s))) (held s) 0
+settled_held s = told_settled (λ o. held_in o) refl s.jobs s.hold
 
 -- s1 is s after the unit of a tick was given
 record Gave (s s1 : State) (got : Got) : Type 0 where
   backlog : (k : ℕ) → backlog_of s1.backlogs k ≡ backlog_of s.backlogs k - part_unit got k
   left : (i : ℕ) → left_of s1.jobs i ≡ left_of s.jobs i - task_unit got i
   age : (i : ℕ) → age_of s1.jobs i ≡ age_of s.jobs i
-  holder : s1.holder ≡ s.holder
-  held : s1.held ≡ s.held - task_unit got s.holder
+  same_holder : holder s1 ≡ holder s
+  units : held s1 ≡ held s - task_unit got (holder s)
 
 -- one less at one number
 less_at : (f : ℕ → ℕ) (k j : ℕ) → cond (eqb j k) (f k - 1) (f j) ≡ f j - cond (eqb j k) 1 0
@@ -76,7 +73,7 @@ less_at f k j = elim (cases_eq j k) [
 ]
 
 gave_nobody : (s : State) → Gave s s Nobody
-gave_nobody s = record { backlog = λ k. omega arith; left = λ i. omega arith; age = λ i. refl; holder = refl; held = omega arith }
+gave_nobody s = record { backlog = λ k. omega arith; left = λ i. omega arith; age = λ i. refl; same_holder = refl; units = omega arith }
 
 gave_part : (s : State) (k : ℕ) → 1 ≤ k → k ≤ length s.backlogs → Gave s (part_served s k) (Part k)
 gave_part s k some within =
@@ -84,8 +81,8 @@ gave_part s k some within =
       backlog = λ j. numbered_set 0 (λ x. x) s.backlogs k (backlog_of s.backlogs k - 1) j some within ∙ less_at (backlog_of s.backlogs) k j;
       left = λ i. omega arith;
       age = λ i. refl;
-      holder = refl;
-      held = omega arith;
+      same_holder = refl;
+      units = omega arith;
     }
 
 gave_task : (s : State) (i : ℕ) (a : Option ℕ) → 1 ≤ i → i ≤ length s.jobs → Gave s (task_served s i) (Task i a)
@@ -97,8 +94,8 @@ gave_task s i a some within =
           ∙ ap (λ x. cond (eqb j i) (x - 1) (left_of s.jobs j)) (sym (numbered_some no_job (λ x. x.left) s.jobs i some))
           ∙ less_at (left_of s.jobs) i j;
       age = λ j. numbered_set no_job (λ x. x.age) s.jobs i (worked job) j some within ∙ same_age j;
-      holder = refl;
-      held = less;
+      same_holder = by_same s.hold;
+      units = less s.hold;
     }
   where
     same_age : (j : ℕ) → cond (eqb j i) (get_or s.jobs (i - 1) no_job).age (age_of s.jobs j) ≡ age_of s.jobs j
@@ -110,84 +107,79 @@ gave_task s i a some within =
       | inr ne ↦ cond-false (eqb j i) (get_or s.jobs (i - 1) no_job).age (age_of s.jobs j) (ne_eqb j i ne)
     ]
 
-    less : cond (eqb s.holder i) (s.held - 1) s.held ≡ s.held - cond (eqb s.holder i) 1 0
-    less = less_at (λ _. s.held) i s.holder
+    by_same : (o : Option Hold) → holder_in (option_map (used i) o) ≡ holder_in o
+    by_same None = refl
+    by_same (Some h) = refl
+
+    less : (o : Option Hold) → held_in (option_map (used i) o) ≡ held_in o - cond (eqb (holder_in o) i) 1 0
+    less None = omega arith
+    less (Some h) = less_at (λ _. h.units) i h.task
 
 -- a tick of the run, once it is known who is due
 module _ (n : ℕ) (d a a' : ℕ → ℕ → ℕ) (m : ℕ) (start rows rows' : List Row) (limits : List Limit) (bounds : List ℕ) (s s1 : State) (got : Got) where
   passed_from : Gave s s1 got → Due (plan_of n d m start limits bounds) (view_of a m rows s) got → AgeTold (plan_of n d m start limits bounds) (view_of a m rows s) got → Ticked a a' → Ticked (allowances_of m (row_at rows)) (allowances_of m (row_at rows')) → Passed (plan_of n d m start limits bounds) (view_of a m rows s) got (view_of a' m rows' (settled (aged s1)))
   passed_from gave who told bank tasks =
       let s2 = aged s1 in
-      let left : (i : ℕ) → left_of (settled s2).jobs i ≡ left_of s1.jobs i = λ i. ap (λ js. left_of js i) (settled_jobs s2) ∙ left_older s1.jobs i in
-      let goes : (leb 1 s1.held && leb 1 (left_of (map older s1.jobs) s1.holder)) ≡ (leb 1 (s.held - task_unit got s.holder) && leb 1 (left_of (settled s2).jobs s.holder)) =
-      ap (λ x. leb 1 x && leb 1 (left_of (map older s1.jobs) s1.holder)) gave.held
-      ∙ ap (λ x. leb 1 (s.held - task_unit got s.holder) && leb 1 (left_of (map older s1.jobs) x)) gave.holder
-      ∙ ap (λ js. leb 1 (s.held - task_unit got s.holder) && leb 1 (left_of js s.holder)) (sym (settled_jobs s2))
+      let left : (i : ℕ) → left_of s2.jobs i ≡ left_of s1.jobs i = λ i. left_older s1.jobs i in
+      let goes : (leb 1 (held s1) && leb 1 (left_of s2.jobs (holder s1))) ≡ (leb 1 (held s - task_unit got (holder s)) && leb 1 (left_of s2.jobs (holder s))) =
+      ap (λ x. leb 1 x && leb 1 (left_of s2.jobs (holder s1))) gave.units
+      ∙ ap (λ x. leb 1 (held s - task_unit got (holder s)) && leb 1 (left_of s2.jobs x)) gave.same_holder
       in
       record {
         due = who;
         told = told;
-        backlog = λ k. ap (λ xs. backlog_of xs k) (settled_backlogs s2) ∙ gave.backlog k;
+        backlog = gave.backlog;
         left = λ i. left i ∙ gave.left i;
-        age = λ i. ap (λ js. age_of js i) (settled_jobs s2) ∙ aged_age s1.jobs i ∙ ap (λ x. cond (leb 1 x) (min (age_of s1.jobs i + 1) 4294967295) 0) (sym (left i)) ∙ ap (λ x. cond (leb 1 (left_of (settled s2).jobs i)) (min (x + 1) 4294967295) 0) (gave.age i);
-        holder = settled_holder s2 ∙ ap (λ b. cond b s1.holder 0) goes ∙ ap (λ x. cond (leb 1 (s.held - task_unit got s.holder) && leb 1 (left_of (settled s2).jobs s.holder)) x 0) gave.holder;
-        held = settled_held s2 ∙ ap (λ b. cond b s1.held 0) goes ∙ ap (λ x. cond (leb 1 (s.held - task_unit got s.holder) && leb 1 (left_of (settled s2).jobs s.holder)) x 0) gave.held;
+        age = λ i. aged_age s1.jobs i ∙ ap (λ x. cond (leb 1 x) (min (age_of s1.jobs i + 1) 4294967295) 0) (sym (left i)) ∙ ap (λ x. cond (leb 1 (left_of s2.jobs i)) (min (x + 1) 4294967295) 0) (gave.age i);
+        holder = settled_holder s2 ∙ ap (λ b. cond b (holder s1) 0) goes ∙ ap (λ x. cond (leb 1 (held s - task_unit got (holder s)) && leb 1 (left_of s2.jobs (holder s))) x 0) gave.same_holder;
+        held = settled_held s2 ∙ ap (λ b. cond b (held s1) 0) goes ∙ ap (λ x. cond (leb 1 (held s - task_unit got (holder s)) && leb 1 (left_of s2.jobs (holder s))) x 0) gave.units;
         bank = bank;
         tasks = tasks;
       }
 
+-- a hold is of one of m tasks
+abbrev pub Whose : ℕ → State → Type 0
+Whose m s = ForSome s.hold (λ h. (1 ≤ h.task) × (h.task ≤ m))
+
 -- and it is who the run's rule says
 module _ (n : ℕ) (d a a' : ℕ → ℕ → ℕ) (m : ℕ) (start rows rows' : List Row) (limits : List Limit) (bounds : List ℕ) (s : State)
-    (parts : n ≤ length s.backlogs) (tasks : m ≤ length s.jobs) (holds : s.holder ≤ m)
+    (parts : n ≤ length s.backlogs) (tasks : m ≤ length s.jobs) (whose : Whose m s)
     (bank : Ticked a a') (paced : Ticked (allowances_of m (row_at rows)) (allowances_of m (row_at rows'))) where
   abbrev Ticks : Got → Type 0
   Ticks got = Passed (plan_of n d m start limits bounds) (view_of a m rows s) got (view_of a' m rows' (passed s got))
 
-  ticks_part : 1 ≤ first_at (backlog_of s.backlogs) n → Ticks (Part (first_at (backlog_of s.backlogs) n))
-  ticks_part some =
-      let f = first (backlog_of s.backlogs) n in
-      let k = first_at (backlog_of s.backlogs) n in
-      passed_from n d a a' m start rows rows' limits bounds s (part_served s k) (Part k) (gave_part s k some (omega (arith, f.within))) (some, f.within, f.some some, f.before) tt bank paced
+  ticks_part : (k : ℕ) → First (backlog_of s.backlogs) n k → Ticks (Part k)
+  ticks_part k f = passed_from n d a a' m start rows rows' limits bounds s (part_served s k) (Part k) (gave_part s k f.some (omega (arith, f.within))) (f.some, f.within, f.there, f.before) tt bank paced
 
-  ticks_task : Idle (plan_of n d m start limits bounds) (view_of a m rows s) → (i : ℕ) → 1 ≤ i → i ≤ m → (s.holder ≡ i) ⊎ ((s.holder ≡ 0) × (i ≤ m) × (1 ≤ left_of s.jobs i) × ((j : ℕ) → 1 ≤ j → j < i → left_of s.jobs j ≡ 0)) → Ticks (Task i (told_age s.jobs i))
+  ticks_task : Idle (plan_of n d m start limits bounds) (view_of a m rows s) → (i : ℕ) → 1 ≤ i → i ≤ m → (holder s ≡ i) ⊎ ((holder s ≡ 0) × (i ≤ m) × (1 ≤ left_of s.jobs i) × ((j : ℕ) → 1 ≤ j → j < i → left_of s.jobs j ≡ 0)) → Ticks (Task i (told_age s.jobs i))
   ticks_task idle i some within why = passed_from n d a a' m start rows rows' limits bounds s (task_served s i) (Task i (told_age s.jobs i)) (gave_task s i (told_age s.jobs i) some (omega arith)) (idle, some, why) refl bank paced
 
-  ticks_nobody : Idle (plan_of n d m start limits bounds) (view_of a m rows s) → s.holder ≡ 0 → ((i : ℕ) → 1 ≤ i → i ≤ m → left_of s.jobs i ≡ 0) → Ticks Nobody
+  ticks_nobody : Idle (plan_of n d m start limits bounds) (view_of a m rows s) → holder s ≡ 0 → ((i : ℕ) → 1 ≤ i → i ≤ m → left_of s.jobs i ≡ 0) → Ticks Nobody
   ticks_nobody idle none no-job = passed_from n d a a' m start rows rows' limits bounds s s Nobody (gave_nobody s) (idle, none, no-job) tt bank paced
 
   -- no part has backlog
-  ticks_foremost : first_at (backlog_of s.backlogs) n ≡ 0 → Ticks (due_task s.jobs (foremost m s))
-  ticks_foremost clear = by_holder (leb 1 s.holder) refl
+  ticks_foremost : first_backlog s.backlogs n ≡ None → Ticks (due_task s.jobs (foremost m s))
+  ticks_foremost clear = by_hold s.hold refl
     where
       idle : Idle (plan_of n d m start limits bounds) (view_of a m rows s)
-      idle = (first (backlog_of s.backlogs) n).none clear
+      idle = backlogs_clear s.backlogs n parts clear
 
-      by_first : (b : Bool) → leb 1 (first_at (left_of s.jobs) m) ≡ b → s.holder ≡ 0 → Ticks (cond b (Task (first_at (left_of s.jobs) m) (told_age s.jobs (first_at (left_of s.jobs) m))) Nobody)
-      by_first true e none =
-          let f = first (left_of s.jobs) m in
-          let some : 1 ≤ first_at (left_of s.jobs) m = leb-true 1 (first_at (left_of s.jobs) m) e in
-          ticks_task idle (first_at (left_of s.jobs) m) some f.within (inr (none, f.within, f.some some, f.before))
-      by_first false e none =
-          let f = first (left_of s.jobs) m in
-          let clear' : first_at (left_of s.jobs) m ≡ 0 = omega (arith, leb-false 1 (first_at (left_of s.jobs) m) e) in
-          ticks_nobody idle none (f.none clear')
+      by_pending : holder s ≡ 0 → (o : Option ℕ) → first_pending s.jobs m ≡ o → Ticks (due_task s.jobs o)
+      by_pending none (Some i) e = let f = pending_found s.jobs m i tasks e in ticks_task idle i f.some f.within (inr (none, f.within, f.there, f.before))
+      by_pending none None e = ticks_nobody idle none (jobs_clear s.jobs m tasks e)
 
-      by_holder : (b : Bool) → leb 1 s.holder ≡ b → Ticks (due_task s.jobs (cond b s.holder (first_at (left_of s.jobs) m)))
-      by_holder true e =
-          let some : 1 ≤ s.holder = leb-true 1 s.holder e in
-          subst Ticks (sym (cond-true (leb 1 s.holder) (Task s.holder (told_age s.jobs s.holder)) Nobody e)) (ticks_task idle s.holder some holds (inl refl))
-      by_holder false e =
-          let none : s.holder ≡ 0 = omega (arith, leb-false 1 s.holder e) in
-          by_first (leb 1 (first_at (left_of s.jobs) m)) refl none
+      by_hold : (o : Option Hold) → s.hold ≡ o → Ticks (due_task s.jobs (option_or (option_map (λ h. h.task) o) (first_pending s.jobs m)))
+      by_hold (Some h) e = let there = whose h e in ticks_task idle h.task there.0 there.1 (inl (ap (λ o. holder_in o) e))
+      by_hold None e = by_pending (ap (λ o. holder_in o) e) (first_pending s.jobs m) refl
 
   pub tick_step : Passed (plan_of n d m start limits bounds) (view_of a m rows s) (due n m s) (view_of a' m rows' (passed s (due n m s)))
-  tick_step = go (leb 1 (first_at (backlog_of s.backlogs) n)) refl
+  tick_step = by_part (first_backlog s.backlogs n) refl
     where
-      go : (b : Bool) → leb 1 (first_at (backlog_of s.backlogs) n) ≡ b → Ticks (cond b (Part (first_at (backlog_of s.backlogs) n)) (due_task s.jobs (foremost m s)))
-      go true e = ticks_part (leb-true 1 (first_at (backlog_of s.backlogs) n) e)
-      go false e = ticks_foremost (omega (arith, leb-false 1 (first_at (backlog_of s.backlogs) n) e))
+      by_part : (o : Option ℕ) → first_backlog s.backlogs n ≡ o → Ticks (due_first o (due_task s.jobs (foremost m s)))
+      by_part (Some k) e = ticks_part k (backlog_found s.backlogs n k parts e)
+      by_part None e = ticks_foremost e
 
--- places and the holder, after a tick
+-- places and the hold, after a tick
 served_backlogs : (s : State) (got : Got) → length (served s got).backlogs ≡ length s.backlogs
 served_backlogs s Nobody = refl
 served_backlogs s (Part k) = length-set s.backlogs (k - 1) (backlog_of s.backlogs k - 1)
@@ -198,22 +190,16 @@ served_jobs s Nobody = refl
 served_jobs s (Part k) = refl
 served_jobs s (Task i a) = length-set s.jobs (i - 1) (worked (get_or s.jobs (i - 1) no_job))
 
-served_holder : (s : State) (got : Got) → (served s got).holder ≡ s.holder
-served_holder s Nobody = refl
-served_holder s (Part k) = refl
-served_holder s (Task i a) = refl
+served_whose : (s : State) (got : Got) (m : ℕ) → Whose m s → Whose m (served s got)
+served_whose s Nobody m w = w
+served_whose s (Part k) m w = w
+served_whose s (Task i a) m w = after_use (λ h. (1 ≤ h.task) × (h.task ≤ m)) i s.hold w
 
 pub passed_backlogs : (s : State) (got : Got) → length (passed s got).backlogs ≡ length s.backlogs
-passed_backlogs s got = ap length (settled_backlogs (aged (served s got))) ∙ served_backlogs s got
+passed_backlogs s got = served_backlogs s got
 
 pub passed_jobs : (s : State) (got : Got) → length (passed s got).jobs ≡ length s.jobs
-passed_jobs s got = ap length (settled_jobs (aged (served s got))) ∙ length-map (served s got).jobs older ∙ served_jobs s got
+passed_jobs s got = length-map (served s got).jobs older ∙ served_jobs s got
 
-below : (b : Bool) (x m : ℕ) → x ≤ m → cond b x 0 ≤ m
-below true x m h = h
-below false x m h = omega arith
-
-pub passed_holder : (s : State) (got : Got) (m : ℕ) → s.holder ≤ m → (passed s got).holder ≤ m
-passed_holder s got m h =
-    let s2 = aged (served s got) in
-    omega (arith, settled_holder s2, below (leb 1 s2.held && leb 1 (left_of s2.jobs s2.holder)) s2.holder m (omega (arith, served_holder s got)))
+pub passed_whose : (s : State) (got : Got) (m : ℕ) → Whose m s → Whose m (passed s got)
+passed_whose s got m w h e = served_whose s got m w h (after_tick (aged (served s got)).jobs (served s got).hold h e).0

@@ -1,6 +1,6 @@
 -- The guarantee speaks of something: a gate, a plan over it that is acceptable, and a list of calls on a run of that plan in which
 -- an offer is taken, a job is released, a hold is granted, a call is refused, and a tick ends a job.
-use Rattle.std.specs.Prelude.{◌≡◌, ℕ, ◌-◌, ◌≤◌, min, true, cond, ◌&&◌, List, [], ◌∷◌, Some, None, nat_le}
+use Rattle.std.specs.Prelude.{◌≡◌, ℕ, ◌-◌, ◌≤◌, min, cond, ◌&&◌, List, [], ◌∷◌, Some, None, nat_le}
 use Rattle.refusal.specs.declared.Fault.TheVariants.{NoSuchNumber}
 use Rattle.source.specs.Facts.{is_part, Sound, Driven}
 use Rattle.paced.specs.Makes.{fresh}
@@ -44,7 +44,7 @@ abbrev pub their_answers : List Answer
 their_answers = Done ∷ Done ∷ Done ∷ Refused (record { fault = NoSuchNumber; line = 0; task = 0 }) ∷ Ticked (Part 1) ∷ Ticked (Part 1) ∷ Ticked (Task 1 None) ∷ Ticked (Task 1 (Some 4)) ∷ []
 
 abbrev pub run_fixed : Fixed
-run_fixed = record { accepted = true; parts = 1; tasks = 1; limits = only_limit }
+run_fixed = record { parts = Some 1; tasks = 1; limits = only_limit }
 
 pub record Example : Type 0 where
   pub sound : (s : ℕ) → Sound 1 store_demand (store_allowed s)

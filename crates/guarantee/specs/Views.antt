@@ -6,7 +6,7 @@ use Rattle.paced.specs.declared.row.Row.{Row}
 use Rattle.plan.specs.Limits.{limit_at}
 use Rattle.plan.specs.declared.tasks.Limit.{Limit}
 use Rattle.calls.specs.States as model
-use Rattle.run.specs.States.{backlog_of, left_of, age_of, hold_of}
+use Rattle.run.specs.States.{backlog_of, left_of, age_of, hold_of, holder, held}
 use Rattle.run.specs.declared.state.State.{State}
 
 -- a plan over a bank of n parts of demand d, with m tasks of these rows and limits, and these bounds
@@ -15,4 +15,4 @@ plan_of n d m rows limits bounds = record { parts = n; demand = d; tasks = m; ta
 
 -- a run whose bank has the allowance a
 abbrev pub view_of : (ℕ → ℕ → ℕ) → ℕ → List Row → State → model.State
-view_of a m rows s = record { bank = a; tasks = allowances_of m (row_at rows); backlog = backlog_of s.backlogs; left = left_of s.jobs; age = age_of s.jobs; holder = s.holder; held = s.held }
+view_of a m rows s = record { bank = a; tasks = allowances_of m (row_at rows); backlog = backlog_of s.backlogs; left = left_of s.jobs; age = age_of s.jobs; holder = holder s; held = held s }

@@ -8,9 +8,10 @@ use source::Gate;
 
 // Makes one call of a run, and gives its answer.
 pub fn make<G: Gate>(run: &mut Run<G>, call: Call) -> Answer
-    ensures did { Did G.Source.allowed G.Gate.takes G.Gate.ticks (record { accepted = run.old.accepted; parts = run.old.parts; tasks = run.old.table.count; limits = run.old.limits }) call result (record { bank = run.old.bank; rows = run.old.table.rows; state = run.old.state }) (record { bank = run.new.bank; rows = run.new.table.rows; state = run.new.state }) }
-    ensures fixed { (run.new.limits ≡ run.old.limits) × (run.new.accepted ≡ run.old.accepted) × (run.new.parts ≡ run.old.parts) × (run.new.bounds ≡ run.old.bounds) × (run.new.table.count ≡ run.old.table.count) }
+    ensures did { Did G.Source.allowed G.Gate.takes G.Gate.ticks (record { parts = run.old.terms.parts; tasks = run.old.table.count; limits = run.old.terms.limits }) call result (record { bank = run.old.bank; rows = run.old.table.rows; state = run.old.state }) (record { bank = run.new.bank; rows = run.new.table.rows; state = run.new.state }) }
+    ensures fixed { (run.new.terms ≡ run.old.terms) × (run.new.table.count ≡ run.old.table.count) }
 {
+    // a match, and no table of functions: the calls differ in what they take, and a call is a value of an enum
     match call {
         Call::Offer(part, units) => run.offer(part, units).into(),
         Call::Release(task, units) => run.release(task, units).into(),

@@ -1,60 +1,78 @@
--- The first number at which a function is not 0.
-use Rattle.std.proofs.Common.{◌≡◌, ℕ, zero, suc, ◌+◌, ◌<◌, ◌≤◌, Bool, true, false, cond, leb, refl, sym, ap, ◌∙◌, inl, inr, add-one, arith}
-use Rattle.std.proofs.lemmas.Bool.{leb-true, leb-false, cases_lt, cases_order}
-use Rattle.std.proofs.lemmas.Bool.Decides.{nat_tests}
-use Rattle.run.specs.States.{first_at}
+-- The first number at which something waits.
+use Rattle.std.proofs.Common.{◌≡◌, ℕ, ◌+◌, ◌-◌, ◌<◌, ◌≤◌, Bool, true, false, cond, leb, ltb, List, length, get_or, take, Option, Some, None, refl, sym, ap, ◌∙◌, subst, arith}
+use Rattle.std.specs.List.{position, position_or_len}
+use Rattle.std.specs.Prelude.{option_map}
+use Rattle.std.proofs.lemmas.Bool.{leb-true, leb-false, ltb-false}
+use Rattle.std.proofs.lemmas.List.{get_or-take, length-take-le}
+use Rattle.std.proofs.lemmas.List.Quantifiers.{position-Some}
+use Rattle.std.proofs.lemmas.List.Sums.{fails_before_first}
+use Rattle.run.specs.States.{no_job, backlog_of, left_of, first_at, first_backlog, first_pending}
+use Rattle.run.specs.declared.state.Job.{Job}
+use Rattle.run.proofs.Numbered.{numbered, numbered_some}
+use Rattle.run.proofs.Steady.{nothing, same_value}
 
--- r is the first of the numbers 1 to n at which f is not 0, or 0
+-- r is the first of the numbers 1 to n at which f is not 0
 pub record First (f : ℕ → ℕ) (n r : ℕ) : Type 0 where
+  pub some : 1 ≤ r
   pub within : r ≤ n
-  pub some : 1 ≤ r → 1 ≤ f r
+  pub there : 1 ≤ f r
   pub before : (j : ℕ) → 1 ≤ j → j < r → f j ≡ 0
-  pub none : r ≡ 0 → (j : ℕ) → 1 ≤ j → j ≤ n → f j ≡ 0
 
-module _ (f : ℕ → ℕ) where
-  -- one number more
-  onward : (n : ℕ) → First f n (first_at f n) → First f (suc n) (first_at f (suc n))
-  onward n p = go (leb 1 (first_at f n)) (leb 1 (f (suc n))) refl refl
+module _ {A : Type 0} (d : A) (g : A → ℕ) (xs : List A) (n : ℕ) (short : n ≤ length xs) where
+  abbrev pub waits : A → Bool
+  waits x = leb 1 (g x)
+
+  abbrev pub f : ℕ → ℕ
+  f = numbered d g xs
+
+  long : length (take n xs) ≡ n
+  long = length-take-le n xs short
+
+  at : (i : ℕ) → i < n → f (i + 1) ≡ g (get_or (take n xs) i d)
+  at i h = numbered_some d g xs (i + 1) (omega arith) ∙ ap (λ k. g (get_or xs k d)) (omega arith) ∙ ap g (sym (get_or-take n xs i d h))
+
+  clear : (i : ℕ) → i < n → waits (get_or (take n xs) i d) ≡ false → f (i + 1) ≡ 0
+  clear i h e = omega (arith, at i h, leb-false 1 (g (get_or (take n xs) i d)) e)
+
+  by_place : (j : ℕ) → 1 ≤ j → f (j - 1 + 1) ≡ 0 → f j ≡ 0
+  by_place j h e = ap f (omega arith) ∙ e
+
+  pub first_found : (r : ℕ) → first_at waits xs n ≡ Some r → First f n r
+  first_found r e = go (position waits (take n xs)) refl e
     where
-      go : (b c : Bool) → leb 1 (first_at f n) ≡ b → leb 1 (f (suc n)) ≡ c → First f (suc n) (cond b (first_at f n) (cond c (suc n) 0))
-      go true c e e' =
-          let some : 1 ≤ first_at f n = leb-true 1 (first_at f n) e in
-          record { within = omega (arith, p.within); some = p.some; before = p.before; none = λ z j a b. absurd (omega arith) }
-      go false true e e' =
-          let clear : first_at f n ≡ 0 = omega (arith, leb-false 1 (first_at f n) e) in
-          record { within = omega arith; some = λ h. leb-true 1 (f (suc n)) e'; before = λ j a b. p.none clear j a (omega arith); none = λ z j a b. absurd (omega arith) }
-      go false false e e' =
-          let clear : first_at f n ≡ 0 = omega (arith, leb-false 1 (first_at f n) e) in
+      go : (o : Option ℕ) → position waits (take n xs) ≡ o → option_map (λ i. i + 1) o ≡ Some r → First f n r
+      go None at' e' = nothing e'
+      go (Some i) at' e' =
+          let place : i + 1 ≡ r = same_value e' in
+          let found = position-Some waits (take n xs) i d at' in
+          let inside : i < n = omega (arith, found.0, long) in
+          let here : 1 ≤ f (i + 1) = omega (arith, at i inside, leb-true 1 (g (get_or (take n xs) i d)) found.1) in
           record {
+            some = omega arith;
             within = omega arith;
-            some = λ h. absurd (omega arith);
-            before = λ j a b. absurd (omega arith);
-            none = λ z j a b. elim (cases_lt n j) [ inl last ↦ (let at : j ≡ suc n = omega arith in omega (arith, ap f at, leb-false 1 (f (suc n)) e')) | inr within ↦ p.none clear j a within ];
+            there = subst (λ k. 1 ≤ f k) place here;
+            before = λ j a b. by_place j a (clear (j - 1) (omega arith) (found.2 (j - 1) (omega arith)));
           }
 
-  pub first : (n : ℕ) → First f n (first_at f n)
-  first zero = record { within = omega arith; some = λ h. absurd (omega arith); before = λ j a b. absurd (omega arith); none = λ z j a b. absurd (omega arith) }
-  first (suc n) = onward n (first n)
+  pub none_found : first_at waits xs n ≡ None → (j : ℕ) → 1 ≤ j → j ≤ n → f j ≡ 0
+  none_found e j a b = by_place j a (clear (j - 1) (omega arith) (fails_before_first waits (take n xs) (j - 1) d (omega (arith, past))))
+    where
+      past : n ≤ position_or_len waits (take n xs)
+      past = go (ltb (position_or_len waits (take n xs)) (length (take n xs))) refl e
+        where
+          go : (b : Bool) → ltb (position_or_len waits (take n xs)) (length (take n xs)) ≡ b → option_map (λ i. i + 1) (cond b (Some (position_or_len waits (take n xs))) None) ≡ None → n ≤ position_or_len waits (take n xs)
+          go true t e' = nothing (sym e')
+          go false t e' = omega (arith, ltb-false (position_or_len waits (take n xs)) (length (take n xs)) t, long)
 
-  -- a loop over the numbers 1 to n, where f is 0 at the first i: v stands at the next
-  pub first_found : (n i v : ℕ) → f (i + 1) ≡ v → first_at f i ≡ 0 → i < n → 1 ≤ v → i + 1 ≡ first_at f n
-  first_found n i v at passed h some =
-      let p = first n in
-      elim (cases_order (first_at f n) (i + 1)) [
-        | inl same ↦ sym same
-        | inr (inl low) ↦
-            elim (cases_lt 0 (first_at f n)) [
-              | inl there ↦ absurd (omega (arith, p.some there, (first i).none passed (first_at f n) there (omega arith)))
-              | inr none ↦ absurd (omega (arith, at, p.none (omega arith) (i + 1) (omega arith) (omega arith)))
-            ]
-        | inr (inr high) ↦ absurd (omega (arith, at, p.before (i + 1) (omega arith) high))
-      ]
+-- the first part with backlog, and the highest task with a job
+pub backlog_found : (backlogs : List ℕ) (n r : ℕ) → n ≤ length backlogs → first_backlog backlogs n ≡ Some r → First (backlog_of backlogs) n r
+backlog_found backlogs n r short e = first_found 0 (λ x. x) backlogs n short r e
 
-  pub first_passed : (i v : ℕ) → f (i + 1) ≡ v → first_at f i ≡ 0 → v ≤ 0 → first_at f (i + 1) ≡ 0
-  first_passed i v at passed none =
-      let more : first_at f (i + 1) ≡ first_at f (suc i) = ap (first_at f) (add-one i) in
-      let here : f (i + 1) ≡ f (suc i) = ap f (add-one i) in
-      grind (arith, nat_tests)
+pub pending_found : (jobs : List Job) (n r : ℕ) → n ≤ length jobs → first_pending jobs n ≡ Some r → First (left_of jobs) n r
+pending_found jobs n r short e = first_found no_job (λ x. x.left) jobs n short r e
 
-  pub first_end : (n i : ℕ) → first_at f i ≡ 0 → i ≡ n → 0 ≡ first_at f n
-  first_end n i passed e = sym passed ∙ ap (first_at f) e
+pub backlogs_clear : (backlogs : List ℕ) (n : ℕ) → n ≤ length backlogs → first_backlog backlogs n ≡ None → (k : ℕ) → 1 ≤ k → k ≤ n → backlog_of backlogs k ≡ 0
+backlogs_clear backlogs n short e = none_found 0 (λ x. x) backlogs n short e
+
+pub jobs_clear : (jobs : List Job) (n : ℕ) → n ≤ length jobs → first_pending jobs n ≡ None → (i : ℕ) → 1 ≤ i → i ≤ n → left_of jobs i ≡ 0
+jobs_clear jobs n short e = none_found no_job (λ x. x.left) jobs n short e

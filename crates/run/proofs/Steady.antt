@@ -1,17 +1,18 @@
 -- What every state of a run keeps, call by call.
-use Rattle.std.proofs.Common.{◌≡◌, ℕ, ◌+◌, ◌-◌, ◌≤◌, min, Bool, true, false, cond, ◌&&◌, leb, List, map, length, get_or, set, ◌≢◌, refl, sym, ap, ◌∙◌, arith, length-set}
+use Rattle.std.proofs.Common.{◌≡◌, ℕ, ◌+◌, ◌-◌, ◌≤◌, min, Bool, true, false, cond, eqb, leb, List, map, length, get_or, set, ◌≢◌, Option, Some, None, ◌⊎◌, inl, inr, refl, sym, ap, ◌∙◌, subst, arith, length-set}
 use Rattle.std.specs.List.{sum}
-use Rattle.std.specs.Prelude.{nat_eq}
+use Rattle.std.specs.Option.{ForSome}
+use Rattle.std.specs.Prelude.{is_some, option_map, unwrap_or}
 use Rattle.std.proofs.Math.ListN.{get_or-map}
-use Rattle.std.proofs.lemmas.Bool.{cond_both, leb-true, leb-false, and_parts}
-use Rattle.std.proofs.lemmas.Bool.Decides.{nat_tests}
+use Rattle.std.proofs.lemmas.Bool.{cond_both, leb-true, leb-false, eqb-true, and_parts, cases_eq, eq-eqb, ne_eqb}
 use Rattle.std.proofs.lemmas.List.{length-map}
 use Rattle.std.proofs.lemmas.List.Sums.{sum_by-set}
 use Rattle.calls.specs.declared.Got.{Got}
 use Rattle.calls.specs.declared.Got.TheVariants.{Nobody, Part, Task}
 use Rattle.plan.specs.declared.tasks.Limit.{Limit}
-use Rattle.run.specs.States.{no_job, backlog_of, left_of, hold_of}
-use Rattle.run.specs.Steps.{released, granted, let_go, removed, ended, worked, part_served, task_served, served, older, aged, settled, passed, Placed}
+use Rattle.run.specs.States.{no_job, backlog_of, left_of, holds, Within, Known, Lasting}
+use Rattle.run.specs.Steps.{grown, released, ended, worked, used, part_served, task_served, served, older, aged, goes_on, going_on, settled, passed, Placed}
+use Rattle.run.specs.declared.state.Hold.{Hold}
 use Rattle.run.specs.declared.state.Job.{Job}
 use Rattle.run.specs.declared.state.State.{State}
 use Rattle.run.proofs.Numbered.{numbered_some, numbered_same, numbered_other}
@@ -21,12 +22,38 @@ pub record Steady (limits : List Limit) (n : ℕ) (s : State) : Type 0 where
   pub backlogs : length s.backlogs ≡ 16
   pub jobs : length s.jobs ≡ 16
   pub waiting : sum s.backlogs ≤ 1000000
-  pub known : s.holder ≤ n
-  pub within : s.held ≤ left_of s.jobs s.holder
-  pub short : s.held ≤ hold_of limits s.holder
+  pub known : Known n limits s
 
-abbrev pub Lasting : State → Type 0
-Lasting s = 1 ≤ s.holder → 1 ≤ s.held
+pub never : {B : Type 0} → false ≡ true → B
+never e = let z : ◌≡◌ {A = ℕ} 0 1 = ap (λ b. cond b 1 0) e in absurd (omega (arith, z))
+
+-- there is no value in None
+pub nothing : {A B : Type 0} {x : A} → None ≡ Some x → B
+nothing e = never (ap is_some e)
+
+pub same_value : {A : Type 0} {x y : A} → Some x ≡ Some y → x ≡ y
+same_value {x = x} e = ap (λ o. unwrap_or o x) e
+
+-- what holds of each hold after a unit, after an end, and after a tick
+pub after_use : (P : Hold → Type 0) (i : ℕ) (o : Option Hold) → ((h : Hold) → o ≡ Some h → P (used i h)) → ForSome (option_map (used i) o) P
+after_use P i None each h e = nothing e
+after_use P i (Some x) each h e = subst P (same_value e) (each x refl)
+
+pub after_end : (i : ℕ) (o : Option Hold) (h : Hold) → cond (holds o i) None o ≡ Some h → (o ≡ Some h) × (h.task ≢ i)
+after_end i None h e = nothing e
+after_end i (Some x) h e = go (cases_eq x.task i)
+  where
+    go : (x.task ≡ i) ⊎ (x.task ≢ i) → (Some x ≡ Some h) × (h.task ≢ i)
+    go (inl same) = nothing (subst (λ b. cond b None (Some x) ≡ Some h) (eq-eqb x.task i same) e)
+    go (inr other) = let kept : Some x ≡ Some h = subst (λ b. cond b None (Some x) ≡ Some h) (ne_eqb x.task i other) e in (kept, subst (λ y. y.task ≢ i) (same_value kept) other)
+
+pub after_tick : (jobs : List Job) (o : Option Hold) (h : Hold) → going_on jobs o ≡ Some h → (o ≡ Some h) × (1 ≤ h.units)
+after_tick jobs None h e = nothing e
+after_tick jobs (Some x) h e = go (goes_on jobs x) refl e
+  where
+    go : (b : Bool) → goes_on jobs x ≡ b → cond b (Some x) None ≡ Some h → (Some x ≡ Some h) × (1 ≤ h.units)
+    go true goes kept = (kept, subst (λ y. 1 ≤ y.units) (same_value kept) (leb-true 1 x.units (and_parts (leb 1 x.units) (leb 1 (left_of jobs x.task)) goes).0))
+    go false goes kept = nothing kept
 
 older_left : (j : Job) → (older j).left ≡ j.left
 older_left j = cond_both (leb 1 j.left) (record { left = j.left; age = min (j.age + 1) 4294967295 }) no_job (λ k. k.left ≡ j.left) (λ e. refl) (λ e. let none = leb-false 1 j.left e in omega arith)
@@ -36,31 +63,32 @@ pub left_older : (jobs : List Job) (i : ℕ) → left_of (map older jobs) i ≡ 
 left_older jobs i = ap (λ x. cond (leb 1 i) x 0) (ap (λ x. x.left) (get_or-map older jobs (i - 1) no_job) ∙ older_left (get_or jobs (i - 1) no_job))
 
 module _ (limits : List Limit) (n : ℕ) (s : State) (steady : Steady limits n s) where
-  pub let_go_steady : Steady limits n (let_go s)
-  let_go_steady = record { backlogs = steady.backlogs; jobs = steady.jobs; waiting = steady.waiting; known = omega arith; within = omega arith; short = omega arith }
-
-  pub granted_steady : (i u : ℕ) → i ≤ n → u ≤ left_of s.jobs i → u ≤ hold_of limits i → Steady limits n (granted s i u)
-  granted_steady i u known within short = record { backlogs = steady.backlogs; jobs = steady.jobs; waiting = steady.waiting; known = known; within = within; short = short }
-
   -- the job of a task that does not hold is written
-  pub written_steady : (i : ℕ) (v : Job) → 1 ≤ i → (s.holder ≢ i) → Steady limits n (record { backlogs = s.backlogs; jobs = set s.jobs (i - 1) v; holder = s.holder; held = s.held })
-  written_steady i v low other = record { backlogs = steady.backlogs; jobs = length-set s.jobs (i - 1) v ∙ steady.jobs; waiting = steady.waiting; known = steady.known; within = omega (arith, steady.within, numbered_other no_job (λ x. x.left) s.jobs i v s.holder low other); short = steady.short }
+  written : (i : ℕ) (v : Job) → 1 ≤ i → (h : Hold) → s.hold ≡ Some h → h.task ≢ i → Within n limits (set s.jobs (i - 1) v) h
+  written i v low h e other =
+      let within = steady.known h e in
+      record { first = within.first; last = within.last; left = omega (arith, within.left, numbered_other no_job (λ x. x.left) s.jobs i v h.task low other); short = within.short }
+
+  pub grown_steady : (k u : ℕ) → 1 ≤ k → k ≤ 16 → sum s.backlogs + u ≤ 1000000 → Steady limits n (grown s k u)
+  grown_steady k u low high room =
+      let b = s.backlogs in
+      let y = backlog_of b k + u in
+      let there : backlog_of b k ≡ get_or b (k - 1) 0 = numbered_some 0 (λ x. x) b k low in
+      let grows : sum (set b (k - 1) y) + get_or b (k - 1) 0 ≡ sum b + y = sum_by-set (λ x. x) b (k - 1) y 0 (omega (arith, steady.backlogs)) in
+      record { backlogs = length-set b (k - 1) y ∙ steady.backlogs; jobs = steady.jobs; waiting = omega arith; known = steady.known }
 
   -- a task that has no job does not hold
-  pub idle_other : Lasting s → (i : ℕ) → 1 ≤ i → left_of s.jobs i ≡ 0 → s.holder ≢ i
-  idle_other lasting i low none e = omega (arith, lasting (omega arith), steady.within, ap (left_of s.jobs) e)
-
   pub released_steady : Lasting s → (i u : ℕ) → 1 ≤ i → left_of s.jobs i ≡ 0 → Steady limits n (released s i u)
-  released_steady lasting i u low none = written_steady i (record { left = u; age = 0 }) low (idle_other lasting i low none)
+  released_steady lasting i u low none =
+      let job : Job = record { left = u; age = 0 } in
+      record { backlogs = steady.backlogs; jobs = length-set s.jobs (i - 1) job ∙ steady.jobs; waiting = steady.waiting; known = λ h e. written i job low h e (λ same. omega (arith, lasting h e, (steady.known h e).left, ap (left_of s.jobs) same)) }
 
   pub ended_steady : (i : ℕ) → 1 ≤ i → Steady limits n (ended s i)
   ended_steady i low =
-      cond_both (nat_eq s.holder i) (let_go (removed s i)) (removed s i) (Steady limits n)
-      (λ e. record { backlogs = steady.backlogs; jobs = length-set s.jobs (i - 1) no_job ∙ steady.jobs; waiting = steady.waiting; known = omega arith; within = omega arith; short = omega arith })
-      (λ e. written_steady i no_job low (λ same. grind (arith, nat_tests)))
+      record { backlogs = steady.backlogs; jobs = length-set s.jobs (i - 1) no_job ∙ steady.jobs; waiting = steady.waiting; known = λ h e. (let kept = after_end i s.hold h e in written i no_job low h kept.0 kept.1) }
 
   pub ended_lasting : Lasting s → (i : ℕ) → Lasting (ended s i)
-  ended_lasting lasting i = cond_both (nat_eq s.holder i) (let_go (removed s i)) (removed s i) Lasting (λ e h. absurd (omega arith)) (λ e. lasting)
+  ended_lasting lasting i h e = lasting h (after_end i s.hold h e).0
 
   part_served_steady : (k : ℕ) → 1 ≤ k → k ≤ 16 → Steady limits n (part_served s k)
   part_served_steady k low high =
@@ -68,10 +96,10 @@ module _ (limits : List Limit) (n : ℕ) (s : State) (steady : Steady limits n s
       let y = backlog_of b k - 1 in
       let there : backlog_of b k ≡ get_or b (k - 1) 0 = numbered_some 0 (λ x. x) b k low in
       let grows : sum (set b (k - 1) y) + get_or b (k - 1) 0 ≡ sum b + y = sum_by-set (λ x. x) b (k - 1) y 0 (omega (arith, steady.backlogs)) in
-      record { backlogs = length-set b (k - 1) y ∙ steady.backlogs; jobs = steady.jobs; waiting = omega (arith, steady.waiting); known = steady.known; within = steady.within; short = steady.short }
+      record { backlogs = length-set b (k - 1) y ∙ steady.backlogs; jobs = steady.jobs; waiting = omega (arith, steady.waiting); known = steady.known }
 
   task_served_steady : (i : ℕ) → 1 ≤ i → i ≤ 16 → Steady limits n (task_served s i)
-  task_served_steady i low high = go (nat_eq s.holder i) refl
+  task_served_steady i low high = record { backlogs = steady.backlogs; jobs = length-set s.jobs (i - 1) v ∙ steady.jobs; waiting = steady.waiting; known = after_use (Within n limits jobs') i s.hold one_less }
     where
       v : Job
       v = worked (get_or s.jobs (i - 1) no_job)
@@ -82,28 +110,31 @@ module _ (limits : List Limit) (n : ℕ) (s : State) (steady : Steady limits n s
       here : left_of jobs' i ≡ left_of s.jobs i - 1
       here = numbered_same no_job (λ x. x.left) s.jobs i v low (omega (arith, steady.jobs)) ∙ ap (λ x. x - 1) (sym (numbered_some no_job (λ x. x.left) s.jobs i low))
 
-      go : (b : Bool) → nat_eq s.holder i ≡ b → Steady limits n (record { backlogs = s.backlogs; jobs = jobs'; holder = s.holder; held = cond b (s.held - 1) s.held })
-      go true e =
-          let same : s.holder ≡ i = grind (arith, nat_tests) in
-          record { backlogs = steady.backlogs; jobs = length-set s.jobs (i - 1) v ∙ steady.jobs; waiting = steady.waiting; known = steady.known; within = omega (arith, steady.within, here, ap (left_of s.jobs) same, ap (left_of jobs') same); short = omega (arith, steady.short) }
-      go false e = written_steady i v low (λ same. grind (arith, nat_tests))
+      one_less : (h : Hold) → s.hold ≡ Some h → Within n limits jobs' (used i h)
+      one_less h e = go (eqb h.task i) refl
+        where
+          within : Within n limits s.jobs h
+          within = steady.known h e
 
-  pub served_steady : (got : Got) → Placed got → Steady limits n (served s got)
+          go : (b : Bool) → eqb h.task i ≡ b → Within n limits jobs' (record { task = h.task; units = cond b (h.units - 1) h.units })
+          go true t =
+              let same : h.task ≡ i = eqb-true h.task i t in
+              record { first = within.first; last = within.last; left = omega (arith, within.left, here, ap (left_of s.jobs) same, ap (left_of jobs') same); short = omega (arith, within.short) }
+          go false t = written i v low h e (λ same. never (sym t ∙ eq-eqb h.task i same))
+
+  served_steady : (got : Got) → Placed got → Steady limits n (served s got)
   served_steady Nobody h = steady
   served_steady (Part k) h = part_served_steady k h.0 h.1
   served_steady (Task i a) h = task_served_steady i h.0 h.1
 
-  pub aged_steady : Steady limits n (aged s)
-  aged_steady = record { backlogs = steady.backlogs; jobs = length-map s.jobs older ∙ steady.jobs; waiting = steady.waiting; known = steady.known; within = omega (arith, steady.within, left_older s.jobs s.holder); short = steady.short }
+  aged_steady : Steady limits n (aged s)
+  aged_steady = record { backlogs = steady.backlogs; jobs = length-map s.jobs older ∙ steady.jobs; waiting = steady.waiting; known = λ h e. (let within = steady.known h e in record { first = within.first; last = within.last; left = omega (arith, within.left, left_older s.jobs h.task); short = within.short }) }
 
-  pub settled_steady : Steady limits n (settled s)
-  settled_steady = cond_both (leb 1 s.held && leb 1 (left_of s.jobs s.holder)) s (let_go s) (Steady limits n) (λ e. steady) (λ e. let_go_steady)
+  settled_steady : Steady limits n (settled s)
+  settled_steady = record { backlogs = steady.backlogs; jobs = steady.jobs; waiting = steady.waiting; known = λ h e. steady.known h (after_tick s.jobs s.hold h e).0 }
 
 pub settled_lasting : (s : State) → Lasting (settled s)
-settled_lasting s =
-    cond_both (leb 1 s.held && leb 1 (left_of s.jobs s.holder)) s (let_go s) Lasting
-    (λ e h. leb-true 1 s.held (and_parts (leb 1 s.held) (leb 1 (left_of s.jobs s.holder)) e).0)
-    (λ e h. absurd (omega arith))
+settled_lasting s h e = (after_tick s.jobs s.hold h e).1
 
 pub passed_steady : (limits : List Limit) (n : ℕ) (s : State) → Steady limits n s → (got : Got) → Placed got → Steady limits n (passed s got)
 passed_steady limits n s steady got placed = settled_steady limits n (aged (served s got)) (aged_steady limits n (served s got) (served_steady limits n s steady got placed))

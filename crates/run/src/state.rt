@@ -9,7 +9,8 @@ pub const PLACES: u32 = 16;
 // The most units that may wait in all backlogs together.
 pub const MOST_BACKLOG: u64 = 1_000_000;
 
-// The job of a task: the units left of it, and its age in ticks. With no units left, no job is pending.
+// The job of a task: the units left of it, and its age in ticks. With no units left, no job is pending; an `Option` beside
+// the units would say that in two ways.
 #[derive(Clone, Copy)]
 pub struct Job {
     pub left: u64,
@@ -29,12 +30,18 @@ impl Job {
     }
 }
 
-// The backlog of each part and the job of each task, by place from 0; the number of the task that holds the processor, 0 if
-// nobody does, and for how many more units it holds.
+// A hold: the number of the task that holds the processor, and for how many more units.
+#[derive(Clone, Copy)]
+pub struct Hold {
+    pub task: u32,
+    pub units: u64,
+}
+
+// The backlog of each part and the job of each task, by place from 0, and the hold, if a task holds the processor. What the
+// state of a run keeps to stands at the run, so that a rule can say plainly what a call makes of a state.
 #[derive(Clone, Copy)]
 pub struct State {
     pub backlogs: [u64; 16],
     pub jobs: [Job; 16],
-    pub holder: u32,
-    pub held: u64,
+    pub hold: Option<Hold>,
 }

@@ -1,241 +1,239 @@
 // What each call makes of the state of a run.
-ghost use Rattle.std.specs.Prelude.{◌≡◌, ◌+◌, ◌^◌, ◌<◌, ◌≤◌, length};
-ghost use Rattle.std.specs.List.{sum};
-ghost use Rattle.run.specs.States.{backlog_of, left_of, first_at};
-ghost use Rattle.run.specs.Steps.{grown, released, granted, let_go, ended, foremost, due_task, due, part_served, task_served, served, aged, settled, passed, Placed};
+ghost use Rattle.std.specs.Prelude.{◌≡◌, ◌+◌, ◌^◌, ◌<◌, ◌≤◌, length, nat_le};
+ghost use Rattle.std.specs.List.{sum, position};
+ghost use Rattle.std.specs.Option.{ForSome};
+ghost use Rattle.run.specs.States.{at_start, backlog_of, left_of, holds, first_backlog, first_pending};
+ghost use Rattle.run.specs.Steps.{grown, released, granted, let_go, ended, foremost, told_age, due, part_served, task_served, served, aged, goes_on, settled, passed, Placed};
 
-use crate::state::{Job, State};
+use crate::state::{Hold, Job, State};
 use calls::Got;
 
-// The units in all backlogs.
-pub(crate) fn total(backlogs: &[u64]) -> u64
-    requires { sum backlogs.now ≤ 1000000 }
-    ensures { result ≡ sum backlogs.now }
+// The place of the first backlog with units.
+fn first_waiting(backlogs: &[u64]) -> Option<usize>
+    ensures { result ≡ position (λ units. nat_le 1 units) backlogs.now }
 {
-    backlogs.iter().sum()
+    backlogs.iter().position(|units| *units > 0)
 }
 
-// The number of the first part with backlog, of some parts, or 0.
-pub(crate) fn first_backlog(backlogs: &[u64], parts: u32) -> u32
-    requires { parts ≤ length backlogs.now }
-    ensures { result ≡ first_at (backlog_of backlogs.now) parts }
+// The place of the first job that is pending.
+fn first_left(jobs: &[Job]) -> Option<usize>
+    ensures { result ≡ position (λ job. nat_le 1 job.left) jobs.now }
 {
-    for place in 0..parts {
-        if backlogs[place as usize] > 0 {
-            return place + 1;
+    jobs.iter().position(|job| job.left > 0)
+}
+
+impl State {
+    // The state of a run at its start.
+    pub(crate) fn at_start() -> State
+        ensures { result ≡ at_start }
+    {
+        let job = Job { left: 0, age: 0 };
+        State {
+            backlogs: [0; 16],
+            jobs: [job; 16],
+            hold: None,
         }
     }
-    0
-}
 
-// The number of the first task with a pending job, of some tasks, or 0.
-pub(crate) fn first_pending(jobs: &[Job], tasks: u32) -> u32
-    requires { tasks ≤ length jobs.now }
-    ensures { result ≡ first_at (left_of jobs.now) tasks }
-{
-    for place in 0..tasks {
-        if jobs[place as usize].left > 0 {
-            return place + 1;
+    // The units in all backlogs.
+    pub(crate) fn waiting(&self) -> u64
+        requires { sum self.now.backlogs ≤ 1000000 }
+        ensures { result ≡ sum self.now.backlogs }
+    {
+        self.backlogs.iter().sum()
+    }
+
+    // The number of the first part with backlog, of some parts.
+    fn first_backlog(&self, parts: u32) -> Option<u32>
+        requires { parts ≤ length self.now.backlogs }
+        ensures { result ≡ first_backlog self.now.backlogs parts }
+    {
+        let place = first_waiting(&self.backlogs[..parts as usize])?;
+        Some(place as u32 + 1)
+    }
+
+    // The number of the first task with a pending job, of some tasks.
+    pub(crate) fn first_pending(&self, tasks: u32) -> Option<u32>
+        requires { tasks ≤ length self.now.jobs }
+        ensures { result ≡ first_pending self.now.jobs tasks }
+    {
+        let place = first_left(&self.jobs[..tasks as usize])?;
+        Some(place as u32 + 1)
+    }
+
+    // The units left of the job of a task.
+    pub(crate) fn left_of(&self, task: u32) -> u64
+        requires first { 1 ≤ task }
+        requires last { task ≤ length self.now.jobs }
+        ensures { result ≡ left_of self.now.jobs task }
+    {
+        self.jobs[(task - 1) as usize].left
+    }
+
+    // Whether a task holds the processor.
+    pub(crate) fn is_held_by(&self, task: u32) -> bool
+        ensures { result ≡ holds self.now.hold task }
+    {
+        self.hold.is_some_and(|hold| hold.task == task)
+    }
+
+    pub(crate) fn grow(&mut self, part: u32, units: u64)
+        requires first { 1 ≤ part }
+        requires last { part ≤ length self.old.backlogs }
+        requires small { backlog_of self.old.backlogs part + units < 2 ^ 64 }
+        ensures { self.new ≡ grown self.old part units }
+    {
+        self.backlogs[(part - 1) as usize] += units;
+    }
+
+    pub(crate) fn release(&mut self, task: u32, units: u64)
+        requires first { 1 ≤ task }
+        requires last { task ≤ length self.old.jobs }
+        ensures { self.new ≡ released self.old task units }
+    {
+        self.jobs[(task - 1) as usize] = Job {
+            left: units,
+            age: 0,
+        };
+    }
+
+    pub(crate) fn grant(&mut self, task: u32, units: u64)
+        ensures { self.new ≡ granted self.old task units }
+    {
+        self.hold = Some(Hold { task, units });
+    }
+
+    pub(crate) fn let_go(&mut self)
+        ensures { self.new ≡ let_go self.old }
+    {
+        self.hold = None;
+    }
+
+    pub(crate) fn end(&mut self, task: u32)
+        requires first { 1 ≤ task }
+        requires last { task ≤ length self.old.jobs }
+        ensures { self.new ≡ ended self.old task }
+    {
+        self.jobs[(task - 1) as usize] = Job { left: 0, age: 0 };
+        if self.is_held_by(task) {
+            self.hold = None;
         }
     }
-    0
-}
 
-// The units left of the job of a task, or 0.
-pub(crate) fn left_of(jobs: &[Job], task: u32) -> u64
-    requires { task ≤ length jobs.now }
-    ensures { result ≡ left_of jobs.now task }
-{
-    if task < 1 {
-        return 0;
+    // The task that goes before the other tasks: the holder, else the highest with a pending job.
+    fn foremost(&self, tasks: u32) -> Option<u32>
+        requires { tasks ≤ length self.now.jobs }
+        ensures { result ≡ foremost tasks self.now }
+    {
+        match self.hold {
+            Some(hold) => Some(hold.task),
+            None => self.first_pending(tasks),
+        }
     }
-    jobs[(task - 1) as usize].left
-}
 
-pub(crate) fn grown(state: State, part: u32, units: u64) -> State
-    requires first { 1 ≤ part }
-    requires last { part ≤ length state.backlogs }
-    requires small { backlog_of state.backlogs part + units < 2 ^ 64 }
-    ensures { result ≡ grown state part units }
-{
-    let mut backlogs = state.backlogs;
-    backlogs[(part - 1) as usize] += units;
-    State { backlogs, ..state }
-}
-
-pub(crate) fn released(state: State, task: u32, units: u64) -> State
-    requires first { 1 ≤ task }
-    requires last { task ≤ length state.jobs }
-    ensures { result ≡ released state task units }
-{
-    let mut jobs = state.jobs;
-    jobs[(task - 1) as usize] = Job {
-        left: units,
-        age: 0,
-    };
-    State { jobs, ..state }
-}
-
-pub(crate) fn granted(state: State, task: u32, units: u64) -> State
-    ensures { result ≡ granted state task units }
-{
-    State {
-        holder: task,
-        held: units,
-        ..state
+    // The age of the job of a task that gets a unit, this tick included, if the job ends with the unit.
+    fn told_age(&self, task: u32) -> Option<u32>
+        requires first { 1 ≤ task }
+        requires last { task ≤ length self.now.jobs }
+        ensures { result ≡ told_age self.now.jobs task }
+    {
+        let job = self.jobs[(task - 1) as usize];
+        (job.left <= 1).then(|| job.age.saturating_add(1))
     }
-}
 
-pub(crate) fn let_go(state: State) -> State
-    ensures { result ≡ let_go state }
-{
-    State {
-        holder: 0,
-        held: 0,
-        ..state
+    // Who gets the unit of a tick.
+    pub(crate) fn due(&self, parts: u32, tasks: u32) -> Got
+        requires parts { parts ≤ length self.now.backlogs }
+        requires tasks { tasks ≤ length self.now.jobs }
+        requires hold { ForSome self.now.hold (λ h. (1 ≤ h.task) × (h.task ≤ tasks)) }
+        ensures { result ≡ due parts tasks self.now }
+    {
+        if let Some(part) = self.first_backlog(parts) {
+            return Got::Part(part);
+        }
+        match self.foremost(tasks) {
+            Some(task) => Got::Task(task, self.told_age(task)),
+            None => Got::Nobody,
+        }
     }
-}
 
-pub(crate) fn ended(state: State, task: u32) -> State
-    requires first { 1 ≤ task }
-    requires last { task ≤ length state.jobs }
-    ensures { result ≡ ended state task }
-{
-    let mut jobs = state.jobs;
-    jobs[(task - 1) as usize] = Job { left: 0, age: 0 };
-    let removed = State { jobs, ..state };
-    if state.holder == task {
-        let_go(removed)
-    } else {
-        removed
+    fn serve_part(&mut self, part: u32)
+        requires first { 1 ≤ part }
+        requires last { part ≤ length self.old.backlogs }
+        ensures { self.new ≡ part_served self.old part }
+    {
+        let place = (part - 1) as usize;
+        self.backlogs[place] = self.backlogs[place].saturating_sub(1);
     }
-}
 
-// The task that goes before the other tasks: the holder, else the highest with a pending job, or 0.
-fn foremost(state: State, tasks: u32) -> u32
-    requires { tasks ≤ length state.jobs }
-    ensures { result ≡ foremost tasks state }
-{
-    if state.holder > 0 {
-        state.holder
-    } else {
-        first_pending(&state.jobs, tasks)
+    fn serve_task(&mut self, task: u32)
+        requires first { 1 ≤ task }
+        requires last { task ≤ length self.old.jobs }
+        ensures { self.new ≡ task_served self.old task }
+    {
+        let place = (task - 1) as usize;
+        self.jobs[place].left = self.jobs[place].left.saturating_sub(1);
+        if let Some(hold) = &mut self.hold
+            && hold.task == task
+        {
+            hold.units = hold.units.saturating_sub(1);
+        }
     }
-}
 
-// A task that gets a unit, with the age of its job if that ends with the unit; or nobody, for 0.
-fn due_task(jobs: &[Job], task: u32) -> Got
-    requires { task ≤ length jobs.now }
-    ensures { result ≡ due_task jobs.now task }
-{
-    if task < 1 {
-        return Got::Nobody;
+    // The unit of a tick is given.
+    fn serve(&mut self, got: Got)
+        requires placed { Placed got }
+        requires backlogs { length self.old.backlogs ≡ 16 }
+        requires jobs { length self.old.jobs ≡ 16 }
+        ensures { self.new ≡ served self.old got }
+    {
+        match got {
+            Got::Nobody => (),
+            Got::Part(part) => self.serve_part(part),
+            Got::Task(task, _) => self.serve_task(task),
+        }
     }
-    let job = jobs[(task - 1) as usize];
-    if job.left <= 1 {
-        Got::Task(task, Some(job.age.saturating_add(1)))
-    } else {
-        Got::Task(task, None)
+
+    // Every pending job is a tick older.
+    fn age(&mut self)
+        ensures { self.new ≡ aged self.old }
+    {
+        for job in self.jobs.iter_mut() {
+            job.pass();
+        }
     }
-}
 
-// Who gets the unit of a tick.
-pub(crate) fn due(state: State, parts: u32, tasks: u32) -> Got
-    requires backlogs { length state.backlogs ≡ 16 }
-    requires jobs { length state.jobs ≡ 16 }
-    requires parts { parts ≤ 16 }
-    requires tasks { tasks ≤ 16 }
-    requires holder { state.holder ≤ 16 }
-    ensures due { result ≡ due parts tasks state }
-    ensures placed { Placed result }
-{
-    let part = first_backlog(&state.backlogs, parts);
-    if part > 0 {
-        return Got::Part(part);
+    // Whether a hold goes on: it has units left, and its task a job.
+    fn goes_on(&self, hold: Hold) -> bool
+        requires first { 1 ≤ hold.task }
+        requires last { hold.task ≤ length self.now.jobs }
+        ensures { result ≡ goes_on self.now.jobs hold }
+    {
+        hold.units > 0 && self.left_of(hold.task) > 0
     }
-    let task = foremost(state, tasks);
-    due_task(&state.jobs, task)
-}
 
-fn part_served(state: State, part: u32) -> State
-    requires first { 1 ≤ part }
-    requires last { part ≤ length state.backlogs }
-    ensures { result ≡ part_served state part }
-{
-    let mut backlogs = state.backlogs;
-    let place = (part - 1) as usize;
-    backlogs[place] = backlogs[place].saturating_sub(1);
-    State { backlogs, ..state }
-}
-
-fn task_served(state: State, task: u32) -> State
-    requires first { 1 ≤ task }
-    requires last { task ≤ length state.jobs }
-    ensures { result ≡ task_served state task }
-{
-    let mut jobs = state.jobs;
-    let place = (task - 1) as usize;
-    let job = jobs[place];
-    jobs[place] = Job {
-        left: job.left.saturating_sub(1),
-        age: job.age,
-    };
-    let held = if state.holder == task {
-        state.held.saturating_sub(1)
-    } else {
-        state.held
-    };
-    State {
-        jobs,
-        held,
-        ..state
+    // A hold that does not go on is over.
+    fn settle(&mut self)
+        requires { ForSome self.old.hold (λ h. (1 ≤ h.task) × (h.task ≤ length self.old.jobs)) }
+        ensures { self.new ≡ settled self.old }
+    {
+        if let Some(hold) = self.hold
+            && !self.goes_on(hold)
+        {
+            self.hold = None;
+        }
     }
-}
 
-// The unit of a tick is given.
-fn served(state: State, got: Got) -> State
-    requires placed { Placed got }
-    requires backlogs { length state.backlogs ≡ 16 }
-    requires jobs { length state.jobs ≡ 16 }
-    ensures { result ≡ served state got }
-{
-    match got {
-        Got::Nobody => state,
-        Got::Part(part) => part_served(state, part),
-        Got::Task(task, _) => task_served(state, task),
+    // A tick in which that one gets the unit.
+    pub(crate) fn pass(&mut self, got: Got)
+        requires placed { Placed got }
+        requires backlogs { length self.old.backlogs ≡ 16 }
+        requires jobs { length self.old.jobs ≡ 16 }
+        requires hold { ForSome self.old.hold (λ h. (1 ≤ h.task) × (h.task ≤ 16)) }
+        ensures { self.new ≡ passed self.old got }
+    {
+        self.serve(got);
+        self.age();
+        self.settle();
     }
-}
-
-// Every pending job is a tick older.
-fn aged(state: State) -> State
-    ensures { result ≡ aged state }
-{
-    let mut jobs = state.jobs;
-    for job in jobs.iter_mut() {
-        job.pass();
-    }
-    State { jobs, ..state }
-}
-
-// A hold with no units left, or of a task with no job any more, is over.
-fn settled(state: State) -> State
-    requires { state.holder ≤ length state.jobs }
-    ensures { result ≡ settled state }
-{
-    if state.held > 0 && left_of(&state.jobs, state.holder) > 0 {
-        state
-    } else {
-        let_go(state)
-    }
-}
-
-// A tick in which that one gets the unit.
-pub(crate) fn passed(state: State, got: Got) -> State
-    requires placed { Placed got }
-    requires backlogs { length state.backlogs ≡ 16 }
-    requires jobs { length state.jobs ≡ 16 }
-    requires holder { state.holder ≤ 16 }
-    ensures { result ≡ passed state got }
-{
-    settled(aged(served(state, got)))
 }

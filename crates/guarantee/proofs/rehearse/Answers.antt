@@ -1,4 +1,5 @@
-use Rattle.std.proofs.Common.{◌≡◌, ℕ, ◌<◌, ◌≤◌, min, true, cond, length, take, get_or, sym, ap, ◌∙◌, subst, arith}
+use Rattle.std.proofs.Common.{◌≡◌, ℕ, ◌<◌, ◌≤◌, min, Bool, true, false, cond, Some, None, refl, length, take, get_or, sym, ap, ◌∙◌, subst, arith}
+use Rattle.std.specs.Prelude.{is_some}
 use Rattle.std.proofs.lemmas.List.{drop-set-lt, get_or-take, length-take-le}
 use Rattle.paced.specs.Pace.{Fit}
 use Rattle.paced.specs.Tables.{row_at}
@@ -12,6 +13,10 @@ use Rattle.guarantee.proofs.Played.{played_more, played_whole}
 use Rattle.guarantee.proofs.Promising.{acceptable_accepted, accepted_bounds, modelled, model_keeps}
 use Rattle.guarantee.proofs.rehearse.Goals as goal
 
+some_if : (b : Bool) (n : ℕ) → is_some (cond b (Some n) None) ≡ b
+some_if true n = refl
+some_if false n = refl
+
 pub loop-place-preserved : goal.loop-place-preserved
 loop-place-preserved g c =
     let inv = c.loop-place.invariant in
@@ -22,9 +27,9 @@ loop-place-preserved g c =
     let now : Now g.row.G.Denot = record { bank = run.bank; rows = run.table.rows; state = run.state } in
     let next : Now g.row.G.Denot = record { bank = c.make.new.run.bank; rows = c.make.new.run.table.rows; state = c.make.new.run.state } in
     let start : Now g.row.G.Denot = record { bank = first.bank; rows = first.table.rows; state = first.state } in
-    let here : Fixed = record { accepted = run.accepted; parts = run.parts; tasks = run.table.count; limits = run.limits } in
-    let there : Fixed = record { accepted = first.accepted; parts = first.parts; tasks = first.table.count; limits = first.limits } in
-    let same : here ≡ there = λ k. record { accepted = inv.accepted k; parts = inv.parts k; tasks = inv.tasks k; limits = inv.limits k } in
+    let here : Fixed = record { parts = run.terms.parts; tasks = run.table.count; limits = run.terms.limits } in
+    let there : Fixed = record { parts = first.terms.parts; tasks = first.table.count; limits = first.terms.limits } in
+    let same : here ≡ there = λ k. record { parts = (inv.terms k).parts; tasks = inv.tasks k; limits = (inv.terms k).limits } in
     let calls = c.args.calls.now in
     let n = c.min-count.result in
     let within : n ≤ length calls = omega arith in
@@ -33,11 +38,8 @@ loop-place-preserved g c =
     let did = subst (λ x. Did g.G.Source.allowed g.G.Gate.takes g.G.Gate.ticks there x c.make.result now next) (get_or-take n calls i (Offer 0 0) (omega (arith, cut))) looked in
     record {
       played = played_more g.G.Source.allowed g.G.Gate.takes g.G.Gate.ticks there c.args.calls.now c.loop-place.answers i (Offer 0 0) c.make.result start now next (omega (arith, cut)) (omega (arith, cut)) inv.played did;
-      accepted = fixed.1 ∙ inv.accepted;
-      parts = fixed.2 ∙ inv.parts;
-      tasks = fixed.4 ∙ inv.tasks;
-      limits = fixed.0 ∙ inv.limits;
-      bounds = fixed.3 ∙ inv.bounds;
+      terms = fixed.0 ∙ inv.terms;
+      tasks = fixed.1 ∙ inv.tasks;
       rest = λ k h. drop-set-lt k c.loop-place.answers i c.make.result (omega (arith, cut)) ∙ inv.rest k (omega arith);
     }
 
@@ -48,7 +50,7 @@ returns-clause-played g c =
     let first = c.start-run.result in
     let begins = c.start-run.ensures in
     let plan = c.args.plan in
-    let there : Fixed = record { accepted = first.accepted; parts = first.parts; tasks = first.table.count; limits = first.limits } in
+    let there : Fixed = record { parts = first.terms.parts; tasks = first.table.count; limits = first.terms.limits } in
     let start : Now g.row.G.Denot = record { bank = first.bank; rows = first.table.rows; state = first.state } in
     let end : Now g.row.G.Denot = record { bank = run.bank; rows = run.table.rows; state = run.state } in
     let n = c.min-count.result in
@@ -58,9 +60,9 @@ returns-clause-played g c =
     let bank : first.bank ≡ plan.bank = begins.bank ∙ c.judge.ensures.bank in
     let rows : first.table.rows ≡ plan.tasks.parts.rows = ap (λ t. t.rows) begins.table ∙ ap (λ t. t.parts.rows) tasks in
     let count : first.table.count ≡ plan.tasks.parts.count = ap (λ t. t.count) begins.table ∙ ap (λ t. t.parts.count) tasks in
-    let limits : first.limits ≡ plan.tasks.limits = begins.limits ∙ ap (λ t. t.limits) tasks in
-    let here : Fixed = record { accepted = run.accepted; parts = run.parts; tasks = plan.tasks.parts.count; limits = plan.tasks.limits } in
-    let same : there ≡ here = λ k. record { accepted = sym inv.accepted k; parts = sym inv.parts k; tasks = count k; limits = limits k } in
+    let limits : first.terms.limits ≡ plan.tasks.limits = begins.limits ∙ ap (λ t. t.limits) tasks in
+    let here : Fixed = record { parts = run.terms.parts; tasks = plan.tasks.parts.count; limits = plan.tasks.limits } in
+    let same : there ≡ here = λ k. record { parts = (sym inv.terms k).parts; tasks = count k; limits = limits k } in
     let begin : start ≡ begun plan.bank plan.tasks.parts.rows = λ k. record { bank = bank k; rows = rows k; state = begins.state k } in
     let turned = subst (λ f. Played g.G.Source.allowed g.G.Gate.takes g.G.Gate.ticks f c.args.calls.now c.loop-place.answers start end) same whole in
     subst (λ s. Played g.G.Source.allowed g.G.Gate.takes g.G.Gate.ticks here c.args.calls.now c.loop-place.answers s end) begin turned
@@ -68,15 +70,17 @@ returns-clause-played g c =
 pub returns-clause-parts : goal.returns-clause-parts
 returns-clause-parts g c taken =
     let inv = c.loop-place.invariant in
+    let run = c.loop-place.run in
     let begins = c.start-run.ensures in
     let plan = c.args.plan in
     let tasks = plan.tasks in
     let table = tasks.parts in
     let v = c.judge.result.verdict in
     let parts = g.G.Source.parts in
-    let accepted : is_accepted v ≡ true = sym begins.accepted ∙ sym inv.accepted ∙ taken in
+    let told : run.terms.parts ≡ cond (is_accepted v) (Some (min (parts c.judge.result.bank) 16)) None = ap (λ t. t.parts) inv.terms ∙ begins.parts in
+    let accepted : is_accepted v ≡ true = sym (some_if (is_accepted v) (min (parts c.judge.result.bank) 16)) ∙ ap is_some (sym told) ∙ taken in
     let few = (accepted_bounds (g.G.Source.demanded plan.bank) (parts plan.bank) tasks.limits table.count table.rows v c.judge.result.bounds c.judge.ensures.judged accepted).0 in
-    inv.parts ∙ begins.parts ∙ ap (λ b. cond b (min (parts c.judge.result.bank) 16) 0) accepted ∙ ap (λ b. min (parts b) 16) c.judge.ensures.bank ∙ omega (arith, few)
+    told ∙ ap (λ b. cond b (Some (min (parts c.judge.result.bank) 16)) None) accepted ∙ ap (λ b. Some (min (parts b) 16)) c.judge.ensures.bank ∙ ap (λ n. Some n) (omega (arith, few))
 
 pub returns-clause-stepped : goal.returns-clause-stepped
 returns-clause-stepped g c ok =
@@ -92,12 +96,13 @@ returns-clause-stepped g c ok =
     let allowed = g.G.Source.allowed in
     let judged = c.judge.ensures.judged in
     let accepted : is_accepted v ≡ true = acceptable_accepted (demanded plan.bank) (parts plan.bank) tasks.limits table.count table.rows v c.judge.result.bounds judged ok in
-    let taken : run.accepted ≡ true = inv.accepted ∙ begins.accepted ∙ accepted in
-    let bounds : run.bounds ≡ c.judge.result.bounds = inv.bounds ∙ begins.bounds in
-    let many : run.parts ≡ parts plan.bank = returns-clause-parts g c taken in
-    let here : Fixed = record { accepted = run.accepted; parts = run.parts; tasks = table.count; limits = tasks.limits } in
-    let full : Fixed = record { accepted = true; parts = parts plan.bank; tasks = table.count; limits = tasks.limits } in
-    let same : here ≡ full = λ k. record { accepted = taken k; parts = many k; tasks = table.count; limits = tasks.limits } in
+    let bounds : run.terms.bounds ≡ c.judge.result.bounds = ap (λ t. t.bounds) inv.terms ∙ begins.bounds in
+    let told : run.terms.parts ≡ cond (is_accepted v) (Some (min (parts c.judge.result.bank) 16)) None = ap (λ t. t.parts) inv.terms ∙ begins.parts in
+    let taken : is_some run.terms.parts ≡ true = ap is_some told ∙ some_if (is_accepted v) (min (parts c.judge.result.bank) 16) ∙ accepted in
+    let many : run.terms.parts ≡ Some (parts plan.bank) = returns-clause-parts g c taken in
+    let here : Fixed = record { parts = run.terms.parts; tasks = table.count; limits = tasks.limits } in
+    let full : Fixed = record { parts = Some (parts plan.bank); tasks = table.count; limits = tasks.limits } in
+    let same : here ≡ full = λ k. record { parts = many k; tasks = table.count; limits = tasks.limits } in
     let end : Now g.row.G.Denot = record { bank = run.bank; rows = run.table.rows; state = run.state } in
     let played = subst (λ f. Played allowed g.G.Gate.takes g.G.Gate.ticks f c.args.calls.now c.loop-place.answers (begun plan.bank table.rows) end) same (returns-clause-played g c) in
     let fit : (i : ℕ) → i < table.count → Fit (row_at table.rows i) = λ i h. record { paces = table.paces i h; places = table.places i h; costs = table.costs i h } in
@@ -109,11 +114,12 @@ returns-clause-guaranteed g c ok =
     let plan = c.args.plan in
     let table = plan.tasks.parts in
     let accepted : is_accepted c.judge.result.verdict ≡ true = acceptable_accepted (g.G.Source.demanded plan.bank) (g.G.Source.parts plan.bank) plan.tasks.limits table.count table.rows c.judge.result.verdict c.judge.result.bounds c.judge.ensures.judged ok in
-    (c.loop-place.invariant.accepted ∙ c.start-run.ensures.accepted ∙ accepted, model_keeps _ _ _ _ (returns-clause-stepped g c ok))
+    let parts = min (g.G.Source.parts c.judge.result.bank) 16 in
+    (ap (λ t. is_some t.parts) c.loop-place.invariant.terms ∙ ap is_some c.start-run.ensures.parts ∙ some_if (is_accepted c.judge.result.verdict) parts ∙ accepted, model_keeps _ _ _ _ (returns-clause-stepped g c ok))
 
 pub returns-clause-fixed : goal.returns-clause-fixed
 returns-clause-fixed g c =
     let inv = c.loop-place.invariant in
     let begins = c.start-run.ensures in
     let tasks = c.judge.ensures.tasks in
-    (inv.limits ∙ begins.limits ∙ ap (λ t. t.limits) tasks, inv.tasks ∙ ap (λ t. t.count) begins.table ∙ ap (λ t. t.parts.count) tasks)
+    (ap (λ t. t.limits) inv.terms ∙ begins.limits ∙ ap (λ t. t.limits) tasks, inv.tasks ∙ ap (λ t. t.count) begins.table ∙ ap (λ t. t.parts.count) tasks)

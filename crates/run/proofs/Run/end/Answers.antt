@@ -1,8 +1,8 @@
-use Rattle.std.proofs.Common.{rules, ◌≡◌, None}
+use Rattle.std.proofs.Common.{rules, ◌≡◌, None, refl}
 use Rattle.run.specs.Faults.{end_fault}
 use Rattle.run.specs.Steps.{ended}
 use Rattle.run.proofs.Faults.{endable}
-use Rattle.run.proofs.Held.{steady, held}
+use Rattle.run.proofs.Held.{steady, held_paced}
 use Rattle.run.proofs.Steady.{ended_steady, ended_lasting}
 use Rattle.run.proofs.Run.end.Goals as goal
 
@@ -11,7 +11,7 @@ invariant_of-self g c =
     let s = c.args.self.now in
     let i = c.args.task in
     let n = s.table.count in
-    let clean : end_fault s.accepted n s.state.jobs i ≡ None = search rules in
-    let task = endable s.accepted n s.state.jobs i clean in
+    let clean : end_fault s.terms.parts n s.state.jobs i ≡ None = search rules in
+    let task = endable s.terms.parts n s.state.jobs i clean in
     let before = steady s in
-    held s (ended s.state i) c.ended-self.ensures (ended_steady s.limits n s.state before i task.0) (ended_lasting s.limits n s.state before s.some i)
+    held_paced s n s.table.rows (ended s.state i) refl s.deadlines c.end.ensures (ended_steady s.terms.limits n s.state before i task.0) (ended_lasting s.terms.limits n s.state before s.lasting i)

@@ -1,10 +1,11 @@
-use Rattle.std.proofs.Common.{arith}
+use Rattle.std.proofs.Common.{refl}
 use Rattle.run.specs.Steps.{let_go}
-use Rattle.run.proofs.Held.{steady, held}
-use Rattle.run.proofs.Steady.{let_go_steady}
+use Rattle.run.proofs.Held.{steady, held_paced}
+use Rattle.run.proofs.Steady.{nothing}
 use Rattle.run.proofs.Run.let_go.Goals as goal
 
 pub invariant_of-self : goal.invariant_of-self
 invariant_of-self g c =
     let s = c.args.self.now in
-    held s (let_go s.state) c.let_go-self.ensures (let_go_steady s.limits s.table.count s.state (steady s)) (λ h. absurd (omega arith))
+    let before = steady s in
+    held_paced s s.table.count s.table.rows (let_go s.state) refl s.deadlines c.let_go.ensures (record { backlogs = before.backlogs; jobs = before.jobs; waiting = before.waiting; known = λ h e. nothing e }) (λ h e. nothing e)

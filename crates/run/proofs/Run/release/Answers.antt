@@ -1,5 +1,4 @@
 use Rattle.std.proofs.Common.{rules, ◌≡◌, None, arith}
-use Rattle.source.proofs.Parts.{part_from, offerable_from}
 use Rattle.paced.specs.Tables.{row_at, allowances_of}
 use Rattle.run.specs.Faults.{release_fault}
 use Rattle.run.specs.Steps.{released}
@@ -9,17 +8,6 @@ use Rattle.run.proofs.Paces.{given_deadlines}
 use Rattle.run.proofs.Steady.{released_steady}
 use Rattle.run.proofs.Run.release.Goals as goal
 
-pub given-self-requires : goal.given-self-requires
-given-self-requires g c =
-    let s = c.args.self.now in
-    let i = c.args.task in
-    let u = c.args.units in
-    let n = s.table.count in
-    let a = allowances_of n (row_at s.table.rows) in
-    let clean : release_fault s.accepted n (a i 1) s.state.jobs i u ≡ None = search rules in
-    let task = releasable s.accepted n (a i 1) s.state.jobs i u clean in
-    offerable_from n a i u (part_from n i task.first task.last) task.some task.allowed
-
 pub invariant_of-self : goal.invariant_of-self
 invariant_of-self g c =
     let s = c.args.self.now in
@@ -27,10 +15,10 @@ invariant_of-self g c =
     let u = c.args.units in
     let n = s.table.count in
     let rows = s.table.rows in
-    let t = c.given-self.result in
+    let t = c.give.new.gate in
     let most = allowances_of n (row_at rows) i 1 in
-    let clean : release_fault s.accepted n most s.state.jobs i u ≡ None = search rules in
-    let task = releasable s.accepted n most s.state.jobs i u clean in
-    let moved = c.given-self.ensures.gives in
-    let paced = given_deadlines s.limits n rows i u t.count t.rows (omega (arith, s.table.held, s.table.few)) moved s.deadlines in
-    held_paced s t.count t.rows (released s.state i u) moved.count paced c.released-self.ensures (released_steady s.limits n s.state (steady s) s.some i u task.first task.none) s.some
+    let clean : release_fault s.terms.parts n most s.state.jobs i u ≡ None = search rules in
+    let task = releasable s.terms.parts n most s.state.jobs i u clean in
+    let moved = c.give.ensures.takes in
+    let paced = given_deadlines s.terms.limits n rows i u t.count t.rows (omega (arith, s.table.held, s.table.few)) moved s.deadlines in
+    held_paced s t.count t.rows (released s.state i u) moved.count paced c.release.ensures (released_steady s.terms.limits n s.state (steady s) s.lasting i u task.first task.none) s.lasting
