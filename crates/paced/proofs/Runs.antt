@@ -34,38 +34,32 @@ module _ (xs : List ℕ) (m i w b : ℕ) (within : i < length xs) (short : m < l
   pub best_grows : b ≡ largest_from (length xs) xs m i → max b w ≡ largest_from (length xs) xs m (i + 1)
   best_grows h = omega (arith, h, w_here, top_on (λ p. met (length xs) (at xs) p m) i)
 
--- the first n of some costs, as a part `costs[0..n]` has them
+-- the first n of some costs, as a part `costs[..n]` has them
 
 small_none : (i : ℕ) → get_or {A = ℕ} [] i 0 ≤ 1000000
 small_none zero = omega arith
 small_none (suc i) = omega arith
 
-small_front : (xs : List ℕ) (n : ℕ) → ((i : ℕ) → at xs i ≤ 1000000) → (i : ℕ) → at (take n xs) i ≤ 1000000
+pub small_front : (xs : List ℕ) (n : ℕ) → ((i : ℕ) → at xs i ≤ 1000000) → (i : ℕ) → at (take n xs) i ≤ 1000000
 small_front xs zero h i = small_none i
 small_front [] (suc n) h i = small_none i
 small_front (x ∷ xs) (suc n) h zero = h zero
 small_front (x ∷ xs) (suc n) h (suc i) = small_front xs n (λ j. h (suc j)) i
 
 module _ (xs : List ℕ) (n : ℕ) (short : n ≤ length xs) where
-  front_is : take (n - 0) xs ≡ take n xs
-  front_is = ap (λ k. take k xs) (omega arith)
+  pub front_length : length (take n xs) ≡ n
+  front_length = length-take-le n xs short
 
-  pub front_length : length (take (n - 0) xs) ≡ n
-  front_length = ap length front_is ∙ length-take-le n xs short
+  pub front_at : (i : ℕ) → i < n → at (take n xs) i ≡ at xs i
+  front_at i h = get_or-take n xs i 0 h
 
-  pub front_small : ((i : ℕ) → at xs i ≤ 1000000) → (i : ℕ) → at (take (n - 0) xs) i ≤ 1000000
-  front_small h i = small_front xs (n - 0) h i
+  pub front_sum : sum (at (take n xs)) (length (take n xs)) ≡ sum (at xs) n
+  front_sum = ap (sum (at (take n xs))) front_length ∙ sum_same (at (take n xs)) (at xs) n front_at
 
-  pub front_at : (i : ℕ) → i < n → at (take (n - 0) xs) i ≡ at xs i
-  front_at i h = ap (λ ys. at ys i) front_is ∙ get_or-take n xs i 0 h
-
-  pub front_sum : sum (at (take (n - 0) xs)) (length (take (n - 0) xs)) ≡ sum (at xs) n
-  front_sum = ap (sum (at (take (n - 0) xs))) front_length ∙ sum_same (at (take (n - 0) xs)) (at xs) n front_at
-
-  pub front_largest : (m : ℕ) → largest (length (take (n - 0) xs)) (take (n - 0) xs) m ≡ largest n xs m
+  pub front_largest : (m : ℕ) → largest (length (take n xs)) (take n xs) m ≡ largest n xs m
   front_largest m =
-      ap (λ k. largest k (take (n - 0) xs) m) front_length
-      ∙ top_same (λ i. met n (at (take (n - 0) xs)) i m) (λ i. met n (at xs) i m) n (λ p l. met_same n (at (take (n - 0) xs)) (at xs) p m front_at l)
+      ap (λ k. largest k (take n xs) m) front_length
+      ∙ top_same (λ i. met n (at (take n xs)) i m) (λ i. met n (at xs) i m) n (λ p l. met_same n (at (take n xs)) (at xs) p m front_at l)
 
-  pub front_top : top (at (take (n - 0) xs)) (length (take (n - 0) xs)) ≡ top (at xs) n
-  front_top = ap (top (at (take (n - 0) xs))) front_length ∙ top_same (at (take (n - 0) xs)) (at xs) n front_at
+  pub front_top : top (at (take n xs)) (length (take n xs)) ≡ top (at xs) n
+  front_top = ap (top (at (take n xs))) front_length ∙ top_same (at (take n xs)) (at xs) n front_at

@@ -13,12 +13,22 @@ use refusal::Fault;
 // Every number given is at most this.
 pub const LARGEST: u32 = 1_000_000;
 
+// What is given of a paced part: an arrival at most every `period` ticks, each offered up to `jitter` ticks late, for
+// these costs in turn.
+#[derive(Clone, Copy)]
+pub struct Pace<'a> {
+    pub period: u32,
+    pub jitter: u32,
+    pub costs: &'a [u32],
+}
+
 // A paced part: an arrival at most every `period` ticks, each offered up to `jitter` ticks late, for the costs
 // 0 to `count` - 1 in turn. `level` is how far the offers are ahead of the pace, `place` that of the next cost.
 #[derive(Clone, Copy)]
 pub struct Row {
     pub period: u32,
     pub jitter: u32,
+    // costs and how many are in use: a rule of the project, which has fixed memory and no heap here
     pub count: u32,
     pub costs: [u32; 8],
     pub level: u32,
@@ -39,29 +49,6 @@ fn all_in_range(costs: &[u32]) -> bool
     costs.iter().all(|cost| in_range(*cost))
 }
 
-// Whether period, jitter and costs are numbers that may be given.
-fn given_right(period: u32, jitter: u32, costs: &[u32]) -> bool
-    ensures { result ≡ given_right period jitter costs.now }
-{
-    in_range(period) && jitter <= LARGEST && 1 <= costs.len() && all_in_range(costs)
-}
-
-// What is wrong with a paced part of these numbers, if anything is.
-pub fn pace_fault(period: u32, jitter: u32, costs: &[u32]) -> Option<Fault>
-    ensures { result ≡ fault_of period jitter costs.now }
-{
-    if costs.len() > 8 {
-        return Some(Fault::TooMany);
-    }
-    if !given_right(period, jitter, costs) {
-        return Some(Fault::OutOfRange);
-    }
-    if jitter >= period {
-        return Some(Fault::Misfit);
-    }
-    None
-}
-
 // Up to 8 costs in a table of 8, with 0 after the last.
 fn padded(costs: &[u32]) -> [u32; 8]
     requires { length costs.now ≤ 8 }
@@ -79,6 +66,7 @@ fn whole(costs: &[u32]) -> u32
     ensures { result ≡ sum (at costs.now) (length costs.now) }
 {
     let mut all = 0;
+    // a rule of the project: a sum over costs is a loop with their index
     for cost in costs {
         all += *cost;
     }
@@ -90,6 +78,7 @@ fn largest(costs: &[u32]) -> u32
     ensures { result ≡ top (at costs.now) (length costs.now) }
 {
     let mut most = 0;
+    // a rule of the project: the largest of costs is found by a loop with their index
     for cost in costs {
         most = most.max(*cost);
     }
@@ -110,8 +99,9 @@ fn largest_part(costs: &[u32], m: u32) -> u32
     requires short { m < length costs.now }
     ensures { result ≡ largest_sum (length costs.now) costs.now m }
 {
-    let mut window = whole(&costs[0..m as usize]);
+    let mut window = whole(&costs[..m as usize]);
     let mut best = 0;
+    // a rule of the project, as at `largest`
     for (place, cost) in costs.iter().enumerate() {
         best = best.max(window);
         let end = wrapped(costs.len(), place + m as usize);
@@ -120,32 +110,58 @@ fn largest_part(costs: &[u32], m: u32) -> u32
     best
 }
 
-// A row of these numbers, with level and place 0.
-fn fresh_row(period: u32, jitter: u32, costs: &[u32]) -> Row
-    requires { length costs.now ≤ 8 }
-    ensures { result ≡ fresh period jitter costs.now }
-{
-    let count = costs.len() as u32;
-    let costs = padded(costs);
-    Row {
-        period,
-        jitter,
-        count,
-        costs,
-        level: 0,
-        place: 0,
+impl Pace<'_> {
+    // Whether these are numbers that may be given.
+    fn given_right(self) -> bool
+        ensures { result ≡ given_right self.entry.period self.entry.jitter self.entry.costs.now }
+    {
+        in_range(self.period)
+            && self.jitter <= LARGEST
+            && 1 <= self.costs.len()
+            && all_in_range(self.costs)
+    }
+
+    // What is wrong with a paced part of these numbers, if anything is.
+    pub fn fault(self) -> Option<Fault>
+        ensures { result ≡ fault_of self.entry.period self.entry.jitter self.entry.costs.now }
+    {
+        if self.costs.len() > 8 {
+            return Some(Fault::TooMany);
+        }
+        if !self.given_right() {
+            return Some(Fault::OutOfRange);
+        }
+        if self.jitter >= self.period {
+            return Some(Fault::Misfit);
+        }
+        None
+    }
+
+    // A row of these numbers, with level and place 0.
+    fn fresh_row(self) -> Row
+        requires { length self.costs.now ≤ 8 }
+        ensures { result ≡ fresh self.entry.period self.entry.jitter self.entry.costs.now }
+    {
+        Row {
+            period: self.period,
+            jitter: self.jitter,
+            count: self.costs.len() as u32,
+            costs: padded(self.costs),
+            level: 0,
+            place: 0,
+        }
     }
 }
 
 impl Row {
     // A paced part with level and place 0, or what is wrong with the numbers.
-    pub fn new(period: u32, jitter: u32, costs: &[u32]) -> Result<Row, Fault>
+    pub fn new(pace: Pace) -> Result<Row, Fault>
         ensures fit { IfOk result (λ row. Fit row) }
-        ensures made { MatchResult result (λ row. (fault_of period jitter costs.now ≡ None) × (row ≡ fresh period jitter costs.now)) (λ fault. fault_of period jitter costs.now ≡ Some fault) }
+        ensures made { MatchResult result (λ row. (fault_of pace.entry.period pace.entry.jitter pace.entry.costs.now ≡ None) × (row ≡ fresh pace.entry.period pace.entry.jitter pace.entry.costs.now)) (λ fault. fault_of pace.entry.period pace.entry.jitter pace.entry.costs.now ≡ Some fault) }
     {
-        match pace_fault(period, jitter, costs) {
+        match pace.fault() {
             Some(fault) => Err(fault),
-            None => Ok(fresh_row(period, jitter, costs)),
+            None => Ok(pace.fresh_row()),
         }
     }
 
@@ -154,7 +170,7 @@ impl Row {
         requires { Fit self.now }
         ensures { result ≡ largest_cost self.now }
     {
-        largest(&self.costs[0..self.count as usize])
+        largest(&self.costs[..self.count as usize])
     }
 
     // The share of the processor's time that the row asks for, in ten-thousandths.
@@ -163,7 +179,7 @@ impl Row {
         ensures { result ≡ row_load self.now }
     {
         load(
-            whole(&self.costs[0..self.count as usize]),
+            whole(&self.costs[..self.count as usize]),
             self.period * self.count,
         )
     }
@@ -195,7 +211,7 @@ impl Row {
             return 0;
         }
         let come = self.arrivals(ticks);
-        let costs = &self.costs[0..self.count as usize];
+        let costs = &self.costs[..self.count as usize];
         let rounds = come / self.count;
         let rest = come % self.count;
         u64::from(rounds) * u64::from(whole(costs)) + u64::from(largest_part(costs, rest))

@@ -6,7 +6,7 @@ ghost use Rattle.paced.specs.Pace.{Paces, Places, Costs, later};
 ghost use Rattle.paced.specs.Tables.{demands_of, allowances_of, only, GivesOne};
 ghost use Rattle.paced.specs.Together.{single_sound, single_taken, single_ticked};
 
-use crate::row::Row;
+use crate::row::{Pace, Row};
 use refusal::Refusal;
 use source::{Gate, LONGEST, Source};
 
@@ -22,10 +22,10 @@ pub struct Paced {
 impl Paced {
     // The part with these numbers, with level and place 0, or a refusal: more than 8 costs; a period or cost of 0, no
     // cost or a number above 1,000,000; a jitter that is not below the period.
-    pub fn new(period: u32, jitter: u32, costs: &[u32]) -> Result<Paced, Refusal>
-        ensures { MatchResult result (λ p. (fault_of period jitter costs.now ≡ None) × (p.row ≡ fresh period jitter costs.now)) (λ e. (fault_of period jitter costs.now ≡ Some e.fault) × (e.line ≡ 0) × (e.task ≡ 0)) }
+    pub fn new(pace: Pace) -> Result<Paced, Refusal>
+        ensures { MatchResult result (λ p. (fault_of pace.entry.period pace.entry.jitter pace.entry.costs.now ≡ None) × (p.row ≡ fresh pace.entry.period pace.entry.jitter pace.entry.costs.now)) (λ e. (fault_of pace.entry.period pace.entry.jitter pace.entry.costs.now ≡ Some e.fault) × (e.line ≡ 0) × (e.task ≡ 0)) }
     {
-        let row = Row::new(period, jitter, costs)?;
+        let row = Row::new(pace)?;
         Ok(Paced { row })
     }
 }
@@ -44,19 +44,11 @@ impl Source for Paced {
     }
 
     fn demand(&self, part: u32, ticks: u32) -> Option<u64> {
-        if part == 1 && ticks <= LONGEST {
-            Some(self.row.demand(ticks))
-        } else {
-            None
-        }
+        (part == 1 && ticks <= LONGEST).then(|| self.row.demand(ticks))
     }
 
     fn allowance(&self, part: u32) -> Option<u64> {
-        if part == 1 {
-            Some(u64::from(self.row.allowance()))
-        } else {
-            None
-        }
+        (part == 1).then(|| u64::from(self.row.allowance()))
     }
 }
 

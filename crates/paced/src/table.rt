@@ -8,7 +8,7 @@ ghost use Rattle.paced.specs.Tables.{row_at, demands_of, allowances_of, Gives, P
 ghost use Rattle.std.proofs.Common.{arith};
 ghost use Rattle.paced.specs.Together.{table_sound, list_taken, list_ticked};
 
-use crate::row::{Row, pace_fault};
+use crate::row::{Pace, Row};
 use refusal::Fault;
 use source::{Gate, LONGEST, MOST_PARTS, Source};
 
@@ -17,6 +17,7 @@ use source::{Gate, LONGEST, MOST_PARTS, Source};
 // plus period.
 #[derive(Clone, Copy)]
 pub struct Table<const ROOM: usize> {
+    // rows and how many are in use: a rule of the project, which has fixed memory and no heap here
     rows: [Row; ROOM],
     count: u32,
     ghost held: { length rows ≡ ROOM },
@@ -60,13 +61,13 @@ impl<const ROOM: usize> Table<ROOM> {
     }
 
     // What is wrong with one part more, if anything is.
-    pub fn fault(&self, period: u32, jitter: u32, costs: &[u32]) -> Option<Fault>
-        ensures { result ≡ adding (min ROOM 1000) self.now.count period jitter costs.now }
+    pub fn fault(&self, pace: Pace) -> Option<Fault>
+        ensures { result ≡ adding (min ROOM 1000) self.now.count pace.entry.period pace.entry.jitter pace.entry.costs.now }
     {
         if !self.has_room() {
             return Some(Fault::TooMany);
         }
-        pace_fault(period, jitter, costs)
+        pace.fault()
     }
 
     // The largest cost of a part, or None if there is no such part.
@@ -85,13 +86,13 @@ impl<const ROOM: usize> Table<ROOM> {
 
     // One part more behind the others, with level and place 0, or what is wrong: no room or more than 8 costs; a period
     // or cost of 0, no cost or a number above 1,000,000; a jitter that is not below the period.
-    pub fn add(&mut self, period: u32, jitter: u32, costs: &[u32]) -> Result<(), Fault>
-        ensures { MatchResult result (λ _. (adding (min ROOM 1000) self.old.count period jitter costs.now ≡ None) × (self.new.rows ≡ slice_set self.old.rows self.old.count (fresh period jitter costs.now)) × (self.new.count ≡ self.old.count + 1)) (λ fault. (adding (min ROOM 1000) self.old.count period jitter costs.now ≡ Some fault) × (self.new ≡ self.old)) }
+    pub fn add(&mut self, pace: Pace) -> Result<(), Fault>
+        ensures { MatchResult result (λ _. (adding (min ROOM 1000) self.old.count pace.entry.period pace.entry.jitter pace.entry.costs.now ≡ None) × (self.new.rows ≡ slice_set self.old.rows self.old.count (fresh pace.entry.period pace.entry.jitter pace.entry.costs.now)) × (self.new.count ≡ self.old.count + 1)) (λ fault. (adding (min ROOM 1000) self.old.count pace.entry.period pace.entry.jitter pace.entry.costs.now ≡ Some fault) × (self.new ≡ self.old)) }
     {
         if !self.has_room() {
             return Err(Fault::TooMany);
         }
-        let row = Row::new(period, jitter, costs)?;
+        let row = Row::new(pace)?;
         let mut grown = self.rows;
         grown[self.count as usize] = row;
         self.rows = grown;
@@ -134,17 +135,16 @@ impl<const ROOM: usize> Gate for Table<ROOM> {
     } };
 
     fn offer(&mut self, part: u32, units: u64) -> bool {
-        if part < 1 || part > self.count {
+        let Some(row) = self.row(part) else {
             return false;
-        }
-        let place = (part - 1) as usize;
-        let mut row = self.rows[place];
+        };
+        let mut row = *row;
         if units < 1 || units > u64::from(row.allowance()) {
             return false;
         }
         row.give();
         let mut moved = self.rows;
-        moved[place] = row;
+        moved[(part - 1) as usize] = row;
         self.rows = moved;
         true
     }

@@ -2,7 +2,7 @@ use Rattle.std.proofs.Common.{◌≡◌, ◌≤◌, max, length, sym, refl, ap, 
 use Rattle.cycles.specs.Round.{met}
 use Rattle.cycles.proofs.Rounds.{met_first}
 use Rattle.paced.specs.Runs.{at}
-use Rattle.paced.proofs.Runs.{turn, turn_at, front_length, front_small, front_sum, end_within, window_small, window_slides, best_grows}
+use Rattle.paced.proofs.Runs.{turn, turn_at, front_length, small_front, front_sum, end_within, window_small, window_slides, best_grows}
 use Rattle.paced.proofs.row.largest_part.Goals as goal
 
 pub whole-window-requires : goal.whole-window-requires
@@ -10,7 +10,7 @@ whole-window-requires c =
     let short : c.args.m ≤ length c.args.costs.now = omega arith in
     record {
       few = omega (arith, front_length c.args.costs.now c.args.m short);
-      small = front_small c.args.costs.now c.args.m short c.requires.small;
+      small = small_front c.args.costs.now c.args.m c.requires.small;
     }
 
 pub loop-place-init : goal.loop-place-init

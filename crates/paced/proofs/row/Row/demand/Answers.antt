@@ -2,7 +2,7 @@ use Rattle.std.proofs.Common.{◌≡◌, ◌+◌, ◌*◌, ◌/◌, ◌%◌, ◌
 use Rattle.cycles.specs.Round.{sum}
 use Rattle.paced.specs.Runs.{at, largest}
 use Rattle.paced.specs.Pace.{demand, arrivals, coming}
-use Rattle.paced.proofs.Runs.{front_length, front_small, front_sum, front_largest}
+use Rattle.paced.proofs.Runs.{front_length, small_front, front_sum, front_largest}
 use Rattle.paced.specs.Rows.{demand_none, demand_split, arrivals_in}
 use Rattle.paced.proofs.row.Row.demand.Goals as goal
 
@@ -15,7 +15,7 @@ whole-requires c =
     let short : r.count ≤ length r.costs = omega arith in
     record {
       few = omega (arith, front_length r.costs r.count short);
-      small = front_small r.costs r.count short c.requires.fit.costs;
+      small = small_front r.costs r.count c.requires.fit.costs;
     }
 
 pub largest_part-requires : goal.largest_part-requires
@@ -24,7 +24,7 @@ largest_part-requires c =
     let short : r.count ≤ length r.costs = omega arith in
     record {
       few = omega (arith, front_length r.costs r.count short);
-      small = front_small r.costs r.count short c.requires.fit.costs;
+      small = small_front r.costs r.count c.requires.fit.costs;
       short = omega (arith, front_length r.costs r.count short, mod-lt c.arrivals-come.result {m = r.count} (omega arith));
     }
 

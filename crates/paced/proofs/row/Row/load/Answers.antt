@@ -1,6 +1,6 @@
 use Rattle.std.proofs.Common.{◌*◌, ◌≤◌, length, ap, ◌∙◌, mul-le-mul, arith}
 use Rattle.loads.specs.Share.{load_of}
-use Rattle.paced.proofs.Runs.{front_length, front_small, front_sum}
+use Rattle.paced.proofs.Runs.{front_length, small_front, front_sum}
 use Rattle.paced.proofs.row.Row.load.Goals as goal
 
 pub whole-requires : goal.whole-requires
@@ -9,7 +9,7 @@ whole-requires c =
     let short : r.count ≤ length r.costs = omega arith in
     record {
       few = omega (arith, front_length r.costs r.count short);
-      small = front_small r.costs r.count short c.requires.costs;
+      small = small_front r.costs r.count c.requires.costs;
     }
 
 pub returns : goal.returns

@@ -6,5 +6,5 @@ use Rattle.paced.proofs.row.Row.new.Goals as goal
 
 pub returns-in-None-clause-fit : goal.returns-in-None-clause-fit
 returns-in-None-clause-fit c =
-    let right : fault_of c.args.period c.args.jitter c.args.costs.now ≡ None = sym c.pace_fault.ensures ∙ c.in-None.is in
-    subst Fit (sym c.fresh_row.ensures) (fresh_fit c.args.period c.args.jitter c.args.costs.now right)
+    let right : fault_of c.args.pace.period c.args.pace.jitter c.args.pace.costs.now ≡ None = sym c.fault.ensures ∙ c.in-None.is in
+    subst Fit (sym c.fresh_row.ensures) (fresh_fit c.args.pace.period c.args.pace.jitter c.args.pace.costs.now right)
