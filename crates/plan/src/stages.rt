@@ -7,6 +7,7 @@ ghost use Rattle.plan.specs.Limits.{unlimited, task_fault};
 use crate::judge::verdict_on;
 use crate::tasks::{Limit, Tasks};
 use crate::verdict::Verdict;
+use paced::row::Pace;
 use refusal::Refusal;
 use source::Source;
 
@@ -60,25 +61,17 @@ impl<S> OpenPlan<S> {
     }
 
     // One task more, below the others, or a refusal with the number that it would have had.
-    pub fn add(
-        &mut self,
-        period: u32,
-        jitter: u32,
-        limit: Limit,
-        costs: &[u32],
-    ) -> Result<(), Refusal>
+    pub fn add(&mut self, pace: Pace, limit: Limit) -> Result<(), Refusal>
         ensures bank { self.new.bank ≡ self.old.bank }
-        ensures added { MatchResult result (λ _. (task_fault self.old.tasks.limits self.old.tasks.parts.count period jitter limit.blocking limit.deadline limit.hold costs.now ≡ None) × (self.new.tasks.parts.rows ≡ slice_set self.old.tasks.parts.rows self.old.tasks.parts.count (fresh period jitter costs.now)) × (self.new.tasks.parts.count ≡ self.old.tasks.parts.count + 1) × (self.new.tasks.limits ≡ slice_set self.old.tasks.limits self.old.tasks.parts.count limit)) (λ e. (task_fault self.old.tasks.limits self.old.tasks.parts.count period jitter limit.blocking limit.deadline limit.hold costs.now ≡ Some e.fault) × (e.line ≡ 0) × (e.task ≡ self.old.tasks.parts.count + 1) × (self.new.tasks ≡ self.old.tasks)) }
+        ensures added { MatchResult result (λ _. (task_fault self.old.tasks.limits self.old.tasks.parts.count pace.entry.period pace.entry.jitter limit.blocking limit.deadline limit.hold pace.entry.costs.now ≡ None) × (self.new.tasks.parts.rows ≡ slice_set self.old.tasks.parts.rows self.old.tasks.parts.count (fresh pace.entry.period pace.entry.jitter pace.entry.costs.now)) × (self.new.tasks.parts.count ≡ self.old.tasks.parts.count + 1) × (self.new.tasks.limits ≡ slice_set self.old.tasks.limits self.old.tasks.parts.count limit)) (λ e. (task_fault self.old.tasks.limits self.old.tasks.parts.count pace.entry.period pace.entry.jitter limit.blocking limit.deadline limit.hold pace.entry.costs.now ≡ Some e.fault) × (e.line ≡ 0) × (e.task ≡ self.old.tasks.parts.count + 1) × (self.new.tasks ≡ self.old.tasks)) }
     {
         let task = self.tasks.count() + 1;
         let mut tasks = self.tasks;
-        tasks
-            .add(period, jitter, limit, costs)
-            .map_err(|fault| Refusal {
-                fault,
-                line: 0,
-                task,
-            })?;
+        tasks.add(pace, limit).map_err(|fault| Refusal {
+            fault,
+            line: 0,
+            task,
+        })?;
         self.tasks = tasks;
         Ok(())
     }

@@ -8,7 +8,7 @@ ghost use Rattle.paced.specs.Pace.{largest_cost};
 ghost use Rattle.paced.specs.Tables.{row_at};
 ghost use Rattle.plan.specs.Limits.{unlimited, limit_at, bearable, limit_fault, task_fault};
 
-use paced::row::in_range;
+use paced::row::{Pace, in_range};
 use paced::table::Table;
 use refusal::{Fault, first_fault};
 use source::{LONGEST, Source};
@@ -68,13 +68,13 @@ impl Tasks {
     }
 
     // What is wrong with the limits of one task more, if anything is.
-    fn limit_fault(&self, period: u32, jitter: u32, limit: Limit) -> Option<Fault>
-        ensures { result ≡ limit_fault self.now.limits self.now.parts.count period jitter limit.blocking limit.deadline limit.hold }
+    fn limit_fault(&self, pace: Pace, limit: Limit) -> Option<Fault>
+        ensures { result ≡ limit_fault self.now.limits self.now.parts.count pace.entry.period pace.entry.jitter limit.blocking limit.deadline limit.hold }
     {
         if !in_range(limit.deadline) || limit.blocking > LONGEST || limit.hold > LONGEST {
             return Some(Fault::OutOfRange);
         }
-        if u64::from(limit.deadline) + u64::from(jitter) > u64::from(period) {
+        if u64::from(limit.deadline) + u64::from(pace.jitter) > u64::from(pace.period) {
             return Some(Fault::Misfit);
         }
         if !self.bears(limit.hold) {
@@ -86,25 +86,16 @@ impl Tasks {
     // One task more, below the others, or what is wrong with it: a 17th task or more than 8 costs; a period, deadline or
     // cost of 0, no cost or a number above 1,000,000; a jitter that is not below the period or a deadline above period
     // less jitter; a hold above the blocking of an earlier task.
-    pub fn add(
-        &mut self,
-        period: u32,
-        jitter: u32,
-        limit: Limit,
-        costs: &[u32],
-    ) -> Result<(), Fault>
-        ensures { MatchResult result (λ _. (task_fault self.old.limits self.old.parts.count period jitter limit.blocking limit.deadline limit.hold costs.now ≡ None) × (self.new.parts.rows ≡ slice_set self.old.parts.rows self.old.parts.count (fresh period jitter costs.now)) × (self.new.parts.count ≡ self.old.parts.count + 1) × (self.new.limits ≡ slice_set self.old.limits self.old.parts.count limit)) (λ fault. (task_fault self.old.limits self.old.parts.count period jitter limit.blocking limit.deadline limit.hold costs.now ≡ Some fault) × (self.new ≡ self.old)) }
+    pub fn add(&mut self, pace: Pace, limit: Limit) -> Result<(), Fault>
+        ensures { MatchResult result (λ _. (task_fault self.old.limits self.old.parts.count pace.entry.period pace.entry.jitter limit.blocking limit.deadline limit.hold pace.entry.costs.now ≡ None) × (self.new.parts.rows ≡ slice_set self.old.parts.rows self.old.parts.count (fresh pace.entry.period pace.entry.jitter pace.entry.costs.now)) × (self.new.parts.count ≡ self.old.parts.count + 1) × (self.new.limits ≡ slice_set self.old.limits self.old.parts.count limit)) (λ fault. (task_fault self.old.limits self.old.parts.count pace.entry.period pace.entry.jitter limit.blocking limit.deadline limit.hold pace.entry.costs.now ≡ Some fault) × (self.new ≡ self.old)) }
     {
-        let found = first_fault(
-            self.parts.fault(period, jitter, costs),
-            self.limit_fault(period, jitter, limit),
-        );
+        let found = first_fault(self.parts.fault(pace), self.limit_fault(pace, limit));
         if let Some(fault) = found {
             return Err(fault);
         }
         let place = self.parts.count() as usize;
         let mut parts = self.parts;
-        parts.add(period, jitter, costs)?;
+        parts.add(pace)?;
         let mut limits = self.limits;
         limits[place] = limit;
         self.parts = parts;
