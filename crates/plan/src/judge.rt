@@ -2,8 +2,7 @@
 ghost use Rattle.std.specs.Prelude.{◌≡◌, ℕ, ◌+◌, ◌<◌, ◌≤◌};
 ghost use Rattle.plan.specs.Judged.{Judged, OnlyJudged};
 
-use crate::search::window_of;
-use crate::tasks::Tasks;
+use crate::stages::OpenPlan;
 use crate::verdict::Verdict;
 use source::Source;
 
@@ -17,36 +16,38 @@ pub(crate) struct Finding {
     pub(crate) bounds: [u32; 16],
 }
 
-pub(crate) fn find<S: Source>(bank: &S, tasks: &Tasks) -> Finding
-    ensures { Judged (S.Source.demanded bank.now) (S.Source.parts bank.now) tasks.now.limits tasks.now.parts.count tasks.now.parts.rows result.verdict result.bounds }
-{
-    let mut bounds = [0; 16];
-    let count = tasks.count();
-    if count == 0 || bank.count() > BANK_PARTS {
-        return Finding {
-            verdict: Verdict::NotJudgeable,
-            bounds,
-        };
-    }
-    for place in 0..count {
-        let Some(ticks) = window_of(bank, tasks, place) else {
+impl<S: Source> OpenPlan<S> {
+    fn find(&self) -> Finding
+        ensures { Judged (S.Source.demanded self.now.bank) (S.Source.parts self.now.bank) self.now.tasks.limits self.now.tasks.parts.count self.now.tasks.parts.rows result.verdict result.bounds }
+    {
+        let mut bounds = [0; 16];
+        let count = self.tasks.count();
+        if count == 0 || self.bank.count() > BANK_PARTS {
             return Finding {
-                verdict: Verdict::late(place),
+                verdict: Verdict::NotJudgeable,
                 bounds,
             };
-        };
-        bounds[place as usize] = ticks;
+        }
+        for place in 0..count {
+            let Some(ticks) = self.window_of(place) else {
+                return Finding {
+                    verdict: Verdict::late(place),
+                    bounds,
+                };
+            };
+            bounds[place as usize] = ticks;
+        }
+        Finding {
+            verdict: Verdict::Accepted(count),
+            bounds,
+        }
     }
-    Finding {
-        verdict: Verdict::Accepted(count),
-        bounds,
-    }
-}
 
-// What is found of a plan, with the law that nothing else can be found.
-pub(crate) fn verdict_on<S: Source>(bank: &S, tasks: &Tasks) -> Finding
-    ensures judged { Judged (S.Source.demanded bank.now) (S.Source.parts bank.now) tasks.now.limits tasks.now.parts.count tasks.now.parts.rows result.verdict result.bounds }
-    ensures only { OnlyJudged (S.Source.demanded bank.now) (S.Source.parts bank.now) tasks.now.limits tasks.now.parts.count tasks.now.parts.rows result.verdict result.bounds }
-{
-    find(bank, tasks)
+    // What is found of the plan, with the law that nothing else can be found.
+    pub(crate) fn verdict_on(&self) -> Finding
+        ensures judged { Judged (S.Source.demanded self.now.bank) (S.Source.parts self.now.bank) self.now.tasks.limits self.now.tasks.parts.count self.now.tasks.parts.rows result.verdict result.bounds }
+        ensures only { OnlyJudged (S.Source.demanded self.now.bank) (S.Source.parts self.now.bank) self.now.tasks.limits self.now.tasks.parts.count self.now.tasks.parts.rows result.verdict result.bounds }
+    {
+        self.find()
+    }
 }

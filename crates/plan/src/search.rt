@@ -3,8 +3,7 @@ ghost use Rattle.std.specs.Prelude.{◌≡◌, ℕ, ◌+◌, ◌^◌, ◌<◌, �
 ghost use Rattle.plan.specs.Limits.{limit_at};
 ghost use Rattle.plan.specs.Needs.{total, needed, Searched};
 
-use crate::tasks::Tasks;
-use paced::table::Table;
+use crate::stages::OpenPlan;
 use source::Source;
 
 // The demand of the first parts of a source over a window.
@@ -33,38 +32,40 @@ fn needed_with(own: u64, bank: u64, above: u64) -> u64
     own + bank + above
 }
 
-// What the task at a place needs of a window: its blocking, its largest cost, and all demand above it.
-fn need_of<S: Source>(bank: &S, tasks: &Tasks, place: u32, ticks: u32) -> u64
-    requires few { S.Source.parts bank.now ≤ 16 }
-    requires task { place < tasks.now.parts.count }
-    requires window { ticks ≤ 1000000 }
-    ensures { result ≡ needed (S.Source.demanded bank.now) (S.Source.parts bank.now) tasks.now.limits tasks.now.parts.count tasks.now.parts.rows place ticks }
-{
-    let own = tasks.own_need(place);
-    let parts = bank.count();
-    let by_bank = total_of(bank, parts, ticks);
-    let by_tasks = total_of(tasks.parts(), place, ticks);
-    needed_with(own, by_bank, by_tasks)
-}
-
-// The smallest window of at most the deadline that holds what the task at a place needs, if there is one. It climbs: a
-// window that is too small has to be at least as large as what is needed in it.
-pub(crate) fn window_of<S: Source>(bank: &S, tasks: &Tasks, place: u32) -> Option<u32>
-    requires few { S.Source.parts bank.now ≤ 16 }
-    requires task { place < tasks.now.parts.count }
-    ensures { Searched (needed (S.Source.demanded bank.now) (S.Source.parts bank.now) tasks.now.limits tasks.now.parts.count tasks.now.parts.rows place) (limit_at tasks.now.limits place).deadline result }
-{
-    let deadline = tasks.deadline(place);
-    let mut ticks = 1;
-    while ticks <= deadline {
-        let need = need_of(bank, tasks, place, ticks);
-        if need <= u64::from(ticks) {
-            return Some(ticks);
-        }
-        if need > u64::from(deadline) {
-            return None;
-        }
-        ticks = need as u32;
+impl<S: Source> OpenPlan<S> {
+    // What the task at a place needs of a window: its blocking, its largest cost, and all demand above it.
+    fn need_of(&self, place: u32, ticks: u32) -> u64
+        requires few { S.Source.parts self.now.bank ≤ 16 }
+        requires task { place < self.now.tasks.parts.count }
+        requires window { ticks ≤ 1000000 }
+        ensures { result ≡ needed (S.Source.demanded self.now.bank) (S.Source.parts self.now.bank) self.now.tasks.limits self.now.tasks.parts.count self.now.tasks.parts.rows place ticks }
+    {
+        let own = self.tasks.own_need(place);
+        let parts = self.bank.count();
+        let by_bank = total_of(&self.bank, parts, ticks);
+        let by_tasks = total_of(self.tasks.parts(), place, ticks);
+        needed_with(own, by_bank, by_tasks)
     }
-    None
+
+    // The smallest window of at most the deadline that holds what the task at a place needs, if there is one. It climbs: a
+    // window that is too small has to be at least as large as what is needed in it.
+    pub(crate) fn window_of(&self, place: u32) -> Option<u32>
+        requires few { S.Source.parts self.now.bank ≤ 16 }
+        requires task { place < self.now.tasks.parts.count }
+        ensures { Searched (needed (S.Source.demanded self.now.bank) (S.Source.parts self.now.bank) self.now.tasks.limits self.now.tasks.parts.count self.now.tasks.parts.rows place) (limit_at self.now.tasks.limits place).deadline result }
+    {
+        let deadline = self.tasks.deadline(place);
+        let mut ticks = 1;
+        while ticks <= deadline {
+            let need = self.need_of(place, ticks);
+            if need <= u64::from(ticks) {
+                return Some(ticks);
+            }
+            if need > u64::from(deadline) {
+                return None;
+            }
+            ticks = need as u32;
+        }
+        None
+    }
 }

@@ -4,7 +4,7 @@ ghost use Rattle.paced.specs.Makes.{fresh, unused};
 ghost use Rattle.plan.specs.Judged.{Judged, OnlyJudged, StaysAccepted, bounds_told};
 ghost use Rattle.plan.specs.Limits.{unlimited, task_fault};
 
-use crate::judge::verdict_on;
+use crate::judge::Finding;
 use crate::tasks::{Limit, Tasks};
 use crate::verdict::Verdict;
 use paced::row::Pace;
@@ -14,8 +14,8 @@ use source::Source;
 // A plan that takes tasks, over a bank.
 #[derive(Drop)]
 pub struct OpenPlan<S> {
-    bank: S,
-    tasks: Tasks,
+    pub(crate) bank: S,
+    pub(crate) tasks: Tasks,
 }
 
 // A plan with its verdict and, if it is accepted, the bound of each task.
@@ -86,13 +86,12 @@ impl<S: Source> OpenPlan<S> {
         ensures only { OnlyJudged (S.Source.demanded self.bank) (S.Source.parts self.bank) self.tasks.limits self.tasks.parts.count self.tasks.parts.rows result.verdict result.bounds }
         ensures stays { StaysAccepted (S.Source.demanded self.bank) (S.Source.parts self.bank) self.tasks.limits self.tasks.parts.count self.tasks.parts.rows result.verdict result.bounds }
     {
+        let Finding { verdict, bounds } = self.verdict_on();
         let OpenPlan { bank, tasks } = self;
-        let found = verdict_on(&bank, &tasks);
-        let bounds = found.bounds;
         JudgedPlan {
             bank,
             tasks,
-            verdict: found.verdict,
+            verdict,
             bounds,
         }
     }

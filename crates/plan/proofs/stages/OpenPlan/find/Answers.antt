@@ -2,12 +2,12 @@ use Rattle.std.proofs.Common.{◌≡◌, ◌+◌, ◌<◌, length, get_or, sym, 
 use Rattle.plan.specs.Judged.{Bounded, Judged, Unbounded}
 use Rattle.plan.specs.declared.verdict.Verdict.TheVariants.{Late}
 use Rattle.plan.proofs.Bounds.{bound_more}
-use Rattle.plan.proofs.judge.find.Goals as goal
+use Rattle.plan.proofs.stages.OpenPlan.find.Goals as goal
 
 pub returns-in_default : goal.returns-in_default
 returns-in_default g c =
-    let b = c.args.bank.now in
-    let t = c.args.tasks.now in
+    let b = c.args.self.now.bank in
+    let t = c.args.self.now.tasks in
     let late : Unbounded (g.S.Source.demanded b) (g.S.Source.parts b) t.limits t.parts.count t.parts.rows c.loop-place.place = c.in_default.ensures in
     let found : Judged (g.S.Source.demanded b) (g.S.Source.parts b) t.limits t.parts.count t.parts.rows (Late (c.loop-place.place + 1)) c.loop-place.bounds = (
       omega (arith, c.count.ensures, c.if-count-gt-BANK_PARTS.false),
@@ -20,8 +20,8 @@ returns-in_default g c =
 
 pub loop-place-preserved : goal.loop-place-preserved
 loop-place-preserved g c =
-    let b = c.args.bank.now in
-    let t = c.args.tasks.now in
+    let b = c.args.self.now.bank in
+    let t = c.args.self.now.tasks in
     let room : c.loop-place.place < length c.loop-place.bounds = omega (arith, c.loop-place.invariant.0, c.count-count.ensures, t.parts.few) in (
       length-set c.loop-place.bounds c.loop-place.place c.in-Some.ticks ∙ c.loop-place.invariant.0,
       bound_more (Bounded (g.S.Source.demanded b) (g.S.Source.parts b) t.limits t.parts.count t.parts.rows) c.loop-place.bounds c.loop-place.place c.in-Some.ticks room c.loop-place.invariant.1 c.in-Some.ensures,

@@ -3,12 +3,12 @@ use Rattle.paced.specs.Tables.{row_at}
 use Rattle.paced.specs.Together.{table_sound}
 use Rattle.plan.specs.Needs.{needed}
 use Rattle.plan.proofs.Climbing.{needed_rises, climbs, none_within}
-use Rattle.plan.proofs.search.window_of.Goals as goal
+use Rattle.plan.proofs.stages.OpenPlan.window_of.Goals as goal
 
 pub returns-then-need-from-2 : goal.returns-then-need-from-2
 returns-then-need-from-2 g c =
-    let b = c.args.bank.now in
-    let t = c.args.tasks.now in
+    let b = c.args.self.now.bank in
+    let t = c.args.self.now.tasks in
     let p = t.parts in
     let f : ℕ → ℕ = needed (g.S.Source.demanded b) (g.S.Source.parts b) t.limits p.count p.rows c.args.place in
     let tasks = table_sound p.count (row_at p.rows) (omega (arith, p.few)) (λ i h. record { paces = p.paces i h; places = p.places i h; costs = p.costs i h }) in
@@ -18,8 +18,8 @@ returns-then-need-from-2 g c =
 
 pub loop-ticks-preserved : goal.loop-ticks-preserved
 loop-ticks-preserved g c =
-    let b = c.args.bank.now in
-    let t = c.args.tasks.now in
+    let b = c.args.self.now.bank in
+    let t = c.args.self.now.tasks in
     let p = t.parts in
     let f : ℕ → ℕ = needed (g.S.Source.demanded b) (g.S.Source.parts b) t.limits p.count p.rows c.args.place in
     let tasks = table_sound p.count (row_at p.rows) (omega (arith, p.few)) (λ i h. record { paces = p.paces i h; places = p.places i h; costs = p.costs i h }) in

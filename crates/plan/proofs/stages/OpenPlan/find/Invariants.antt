@@ -1,0 +1,8 @@
+use Rattle.std.proofs.Common.{◌≡◌, ℕ, ◌<◌, length, get_or}
+use Rattle.plan.specs.Judged.{Bounded}
+use Rattle.plan.proofs.stages.OpenPlan.find.Given as goal
+
+abbrev pub invariant-loop-place : goal.invariant-loop-place
+invariant-loop-place g l =
+    (length l.bounds ≡ 16)
+    × ((i : ℕ) → i < l.place → Bounded (g.S.Source.demanded l.self.bank) (g.S.Source.parts l.self.bank) l.self.tasks.limits l.self.tasks.parts.count l.self.tasks.parts.rows i (get_or l.bounds i 0))
