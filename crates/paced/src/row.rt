@@ -1,6 +1,6 @@
 // One row of paced work, and what a table of such rows asks of each.
-ghost use Rattle.std.specs.Prelude.{◌≡◌, ℕ, ◌+◌, ◌-◌, ◌*◌, ◌/◌, ◌%◌, ◌^◌, ◌<◌, ◌≤◌, ◌++◌, length, replicate, IfOk, if◌then◌else◌, Some, None, MatchResult, nat_le, nat_lt};
-ghost use Rattle.cycles.specs.Round.{sum, top, met};
+ghost use Rattle.std.specs.Prelude.{◌≡◌, ℕ, ◌-◌, ◌<◌, ◌≤◌, ◌++◌, length, replicate, IfOk, if◌then◌else◌, Some, None, MatchResult, nat_le, nat_lt};
+ghost use Rattle.cycles.specs.Round.{sum, top};
 ghost use Rattle.paced.specs.Makes.{in_range, all_in_range, given_right, fault_of, fresh};
 ghost use Rattle.paced.specs.Loads.{row_load};
 ghost use Rattle.paced.specs.Pace.{largest_cost, coming, demand, allowance, given, later, Fit};

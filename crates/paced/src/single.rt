@@ -1,6 +1,5 @@
 // One paced part by itself.
-ghost use Rattle.std.specs.Prelude.{◌≡◌, ℕ, true, false, cond, ◌&&◌, Some, None, MatchResult};
-ghost use Rattle.source.specs.Facts.{is_part, offerable, Sound, Kept, Taken, Ticked, Driven};
+ghost use Rattle.std.specs.Prelude.{◌≡◌, Some, None, MatchResult};
 ghost use Rattle.paced.specs.Makes.{fault_of, fresh};
 ghost use Rattle.paced.specs.Pace.{Paces, Places, Costs, later};
 ghost use Rattle.paced.specs.Tables.{demands_of, allowances_of, only, GivesOne};

@@ -1,6 +1,6 @@
 // Tables of paced parts: plain rows, of which the table says what they keep to.
-ghost use Rattle.std.specs.Prelude.{◌≡◌, ℕ, ◌+◌, ◌-◌, ◌<◌, ◌≤◌, min, true, false, ◌&&◌, length, replicate, if◌then◌else◌, Some, None, MatchOption, MatchResult, nat_lt, slice_set};
-ghost use Rattle.source.specs.Facts.{is_part, offerable, Sound, Kept, Taken, Ticked, Driven};
+ghost use Rattle.std.specs.Prelude.{◌≡◌, ℕ, ◌+◌, ◌-◌, ◌<◌, ◌≤◌, min, true, false, length, replicate, if◌then◌else◌, Some, None, MatchOption, MatchResult, nat_lt, slice_set};
+ghost use Rattle.source.specs.Facts.{is_part};
 ghost use Rattle.paced.specs.Loads.{row_load};
 ghost use Rattle.paced.specs.Makes.{adding, fresh, unused};
 ghost use Rattle.paced.specs.Pace.{Paces, Places, Costs, Fit, largest_cost};

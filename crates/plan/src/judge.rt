@@ -1,5 +1,4 @@
 // The judge: task after task, from the highest on, until one has no window within its deadline.
-ghost use Rattle.std.specs.Prelude.{◌≡◌, ℕ, ◌+◌, ◌<◌, ◌≤◌};
 ghost use Rattle.plan.specs.Judged.{Judged, OnlyJudged};
 
 use crate::stages::OpenPlan;
@@ -13,6 +12,7 @@ pub const BANK_PARTS: u32 = 16;
 #[derive(Clone, Copy)]
 pub(crate) struct Finding {
     pub(crate) verdict: Verdict,
+    // the verdict says how many are in use: a rule of the project, which has fixed memory and no heap here
     pub(crate) bounds: [u32; 16],
 }
 
@@ -28,6 +28,7 @@ impl<S: Source> OpenPlan<S> {
                 bounds,
             };
         }
+        // over numbers: a place is what the search is asked about, and the bound it finds goes into the table there
         for place in 0..count {
             let Some(ticks) = self.window_of(place) else {
                 return Finding {

@@ -1,5 +1,5 @@
 // A plan from open to judged. Each stage is used up by the next, so a judged plan takes no more tasks.
-ghost use Rattle.std.specs.Prelude.{◌≡◌, ℕ, ◌+◌, ◌-◌, ◌<◌, ◌≤◌, min, ◌++◌, length, take, drop, replicate, Some, None, MatchResult, slice_set};
+ghost use Rattle.std.specs.Prelude.{◌≡◌, ◌+◌, ◌≤◌, min, ◌++◌, length, take, drop, replicate, Some, None, MatchResult, slice_set};
 ghost use Rattle.paced.specs.Makes.{fresh, unused};
 ghost use Rattle.plan.specs.Judged.{Judged, OnlyJudged, StaysAccepted, bounds_told};
 ghost use Rattle.plan.specs.Limits.{unlimited, task_fault};
@@ -24,6 +24,7 @@ pub struct JudgedPlan<S> {
     bank: S,
     tasks: Tasks,
     verdict: Verdict,
+    // the verdict says how many are in use: a rule of the project, which has fixed memory and no heap here
     bounds: [u32; 16],
     ghost held: { length bounds ≡ 16 },
     ghost few: { bounds_told verdict ≤ 16 },

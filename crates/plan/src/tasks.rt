@@ -1,9 +1,9 @@
 // The table of tasks. A task is a paced part with blocking, deadline and longest hold; the first task is the highest.
-ghost use Rattle.std.specs.Prelude.{◌≡◌, ℕ, ◌+◌, ◌-◌, ◌^◌, ◌<◌, ◌≤◌, true, false, ◌&&◌, length, replicate, if◌then◌else◌, Some, None, MatchResult, nat_le, slice_set};
+ghost use Rattle.std.specs.Prelude.{◌≡◌, ℕ, ◌+◌, ◌-◌, ◌^◌, ◌<◌, ◌≤◌, length, replicate, if◌then◌else◌, Some, None, MatchResult, nat_le, slice_set};
 ghost use Rattle.std.specs.List.{list_all};
 ghost use Rattle.source.specs.Facts.{is_part};
 ghost use Rattle.paced.specs.Loads.{row_load};
-ghost use Rattle.paced.specs.Makes.{fresh, adding, unused};
+ghost use Rattle.paced.specs.Makes.{fresh, unused};
 ghost use Rattle.paced.specs.Pace.{largest_cost};
 ghost use Rattle.paced.specs.Tables.{row_at};
 ghost use Rattle.plan.specs.Limits.{unlimited, limit_at, bearable, limit_fault, task_fault};
@@ -26,6 +26,7 @@ pub struct Limit {
 #[derive(Clone, Copy)]
 pub struct Tasks {
     parts: Table<16>,
+    // as many in use as there are parts: a rule of the project, which has fixed memory and no heap here
     limits: [Limit; 16],
     ghost held: { length limits ≡ 16 },
     ghost deadlines: { (i : ℕ) → i < parts.count → (limit_at limits i).deadline + (row_at parts.rows i).jitter ≤ (row_at parts.rows i).period },
@@ -89,10 +90,7 @@ impl Tasks {
     pub fn add(&mut self, pace: Pace, limit: Limit) -> Result<(), Fault>
         ensures { MatchResult result (λ _. (task_fault self.old.limits self.old.parts.count pace.entry.period pace.entry.jitter limit.blocking limit.deadline limit.hold pace.entry.costs.now ≡ None) × (self.new.parts.rows ≡ slice_set self.old.parts.rows self.old.parts.count (fresh pace.entry.period pace.entry.jitter pace.entry.costs.now)) × (self.new.parts.count ≡ self.old.parts.count + 1) × (self.new.limits ≡ slice_set self.old.limits self.old.parts.count limit)) (λ fault. (task_fault self.old.limits self.old.parts.count pace.entry.period pace.entry.jitter limit.blocking limit.deadline limit.hold pace.entry.costs.now ≡ Some fault) × (self.new ≡ self.old)) }
     {
-        let found = first_fault(self.parts.fault(pace), self.limit_fault(pace, limit));
-        if let Some(fault) = found {
-            return Err(fault);
-        }
+        first_fault(self.parts.fault(pace), self.limit_fault(pace, limit)).map_or(Ok(()), Err)?;
         let place = self.parts.count() as usize;
         let mut parts = self.parts;
         parts.add(pace)?;
@@ -138,8 +136,7 @@ impl Tasks {
     pub fn limits(&self) -> [Limit; 16]
         ensures { result ≡ self.now.limits }
     {
-        let limits = self.limits;
-        limits
+        self.limits
     }
 
     // The paced parts of the tasks: part k is that of the k-th task.

@@ -1,4 +1,4 @@
-use Rattle.std.proofs.Common.{◌≡◌, ℕ, ◌+◌, ◌<◌, ◌≤◌, length, set, None, refl, sym, ◌∙◌, subst, arith, length-set}
+use Rattle.std.proofs.Common.{◌≡◌, ℕ, ◌+◌, ◌<◌, ◌≤◌, length, set, None, refl, sym, ◌∙◌, subst, rules, arith, length-set}
 use Rattle.refusal.specs.Table.{first_of}
 use Rattle.paced.specs.Makes.{fresh}
 use Rattle.paced.specs.Tables.{row_at}
@@ -11,7 +11,7 @@ pub returns-in_err-add : goal.returns-in_err-add
 returns-in_err-add c =
     let a = c.fault.result in
     let b = c.limit_fault.result in
-    let none : first_of a b ≡ None = sym c.first_fault-found.ensures ∙ c.in_default.is in
+    let none : first_of a b ≡ None = search rules in
     let clean : a ≡ None = (first_none a b none).0 in
     let found = c.in_err-add.ensures.0 in
     let z : ◌≡◌ {A = ℕ} 0 1 = cc (c.fault.ensures, clean, found) in
@@ -26,7 +26,7 @@ invariant_of-self c =
     let j = c.args.pace.jitter in
     let a = c.fault.result in
     let b = c.limit_fault.result in
-    let none : first_of a b ≡ None = sym c.first_fault-found.ensures ∙ c.in_default.is in
+    let none : first_of a b ≡ None = search rules in
     let right : Right s.limits n t j l = right_limits s.limits n t j l (sym c.limit_fault.ensures ∙ (first_none a b none).1) in
     let p = s.parts in
     let p' = c.add.new.self in
