@@ -2,16 +2,8 @@ use Rattle.std.proofs.Common.{◌≡◌, ◌≤◌, max, length, sym, refl, ap, 
 use Rattle.cycles.specs.Round.{met}
 use Rattle.cycles.proofs.Rounds.{met_first}
 use Rattle.paced.specs.Runs.{at}
-use Rattle.paced.proofs.Runs.{turn, turn_at, front_length, small_front, front_sum, end_within, window_small, window_slides, best_grows}
+use Rattle.paced.proofs.Runs.{turn, turn_at, front_sum, window_small, window_slides, best_grows}
 use Rattle.paced.proofs.row.largest_part.Goals as goal
-
-pub whole-window-requires : goal.whole-window-requires
-whole-window-requires c =
-    let short : c.args.m ≤ length c.args.costs.now = omega arith in
-    record {
-      few = omega (arith, front_length c.args.costs.now c.args.m short);
-      small = small_front c.args.costs.now c.args.m c.requires.small;
-    }
 
 pub loop-place-init : goal.loop-place-init
 loop-place-init c =
@@ -22,14 +14,8 @@ loop-place-init c =
     let first : turn n 0 ≡ 0 = turn_at n 0 (omega arith) in
     (c.whole-window.ensures ∙ front_sum xs m short ∙ sym (met_first n (at xs) m short) ∙ ap (λ k. met n (at xs) k m) (sym first), refl)
 
-pub bounds-costs-end : goal.bounds-costs-end
-bounds-costs-end c = end_within c.args.costs.now c.args.m c.loop-place.place c.loop-place.window c.loop-place.best c.loop-place-test.true c.requires.short c.loop-place.invariant.0 c.wrapped-end.result c.wrapped-end.ensures
-
 pub overflow_add-window : goal.overflow_add-window
 overflow_add-window c = omega (arith, window_small c.args.costs.now c.args.m c.loop-place.place c.loop-place.window c.loop-place.best c.loop-place-test.true c.requires.short c.loop-place.invariant.0 c.requires.small, c.requires.small c.wrapped-end.result)
-
-pub overflow_sub-window : goal.overflow_sub-window
-overflow_sub-window c = omega (arith, window_slides c.args.costs.now c.args.m c.loop-place.place c.loop-place.window c.loop-place.best c.loop-place-test.true c.requires.short c.loop-place.invariant.0 c.wrapped-end.result c.wrapped-end.ensures)
 
 pub loop-place-preserved : goal.loop-place-preserved
 loop-place-preserved c =

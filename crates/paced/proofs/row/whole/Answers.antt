@@ -1,5 +1,5 @@
 use Rattle.std.proofs.Common.{arith}
-use Rattle.cycles.proofs.Rounds.{sum_least, sum_on}
+use Rattle.cycles.proofs.Rounds.{sum_least}
 use Rattle.paced.specs.Runs.{at}
 use Rattle.paced.proofs.row.whole.Goals as goal
 
@@ -8,6 +8,3 @@ overflow_add-all c =
     let costs = c.args.costs.now in
     let i = c.loop-cost.cost-index in
     omega (arith, sum_least (at costs) i 1000000 (λ p _. c.requires.small p), c.requires.small i)
-
-pub loop-cost-preserved : goal.loop-cost-preserved
-loop-cost-preserved c = omega (arith, sum_on (at c.args.costs.now) c.loop-cost.cost-index)

@@ -1,32 +1,13 @@
-use Rattle.std.proofs.Common.{◌≡◌, ◌+◌, ◌*◌, ◌/◌, ◌%◌, ◌≤◌, length, sym, ap, ◌∙◌, mod-lt, arith}
+use Rattle.std.proofs.Common.{◌≡◌, ◌+◌, ◌*◌, ◌/◌, ◌%◌, ◌≤◌, length, sym, ap, ◌∙◌, arith}
 use Rattle.cycles.specs.Round.{sum}
 use Rattle.paced.specs.Runs.{at, largest}
 use Rattle.paced.specs.Pace.{demand, arrivals, coming}
-use Rattle.paced.proofs.Runs.{front_length, small_front, front_sum, front_largest}
+use Rattle.paced.proofs.Runs.{front_sum, front_largest}
 use Rattle.paced.specs.Rows.{demand_none, demand_split, arrivals_in}
 use Rattle.paced.proofs.row.Row.demand.Goals as goal
 
 pub returns-then-ticks-eq0 : goal.returns-then-ticks-eq0
 returns-then-ticks-eq0 c = sym (ap (demand c.args.self.now) c.if-ticks-eq0.true ∙ demand_none c.args.self.now)
-
-pub whole-requires : goal.whole-requires
-whole-requires c =
-    let r = c.args.self.now in
-    let short : r.count ≤ length r.costs = omega arith in
-    record {
-      few = omega (arith, front_length r.costs r.count short);
-      small = small_front r.costs r.count c.requires.fit.costs;
-    }
-
-pub largest_part-requires : goal.largest_part-requires
-largest_part-requires c =
-    let r = c.args.self.now in
-    let short : r.count ≤ length r.costs = omega arith in
-    record {
-      few = omega (arith, front_length r.costs r.count short);
-      small = small_front r.costs r.count c.requires.fit.costs;
-      short = omega (arith, front_length r.costs r.count short, mod-lt c.arrivals-come.result {m = r.count} (omega arith));
-    }
 
 pub returns : goal.returns
 returns c =
