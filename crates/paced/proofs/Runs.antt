@@ -1,9 +1,9 @@
 -- Successive costs: what the loops over them keep.
-use Rattle.std.proofs.Common.{◌≡◌, ℕ, zero, suc, ◌+◌, ◌-◌, ◌*◌, ◌<◌, ◌≤◌, max, cond, ltb, List, [], ◌∷◌, length, get_or, take, sym, ap, ◌∙◌, arith}
+use Rattle.std.proofs.Common.{◌≡◌, ℕ, ◌+◌, ◌-◌, ◌*◌, ◌<◌, ◌≤◌, max, cond, ltb, List, length, take, sym, ap, ◌∙◌, arith}
 use Rattle.std.proofs.lemmas.List.{length-take-le, get_or-take}
 use Rattle.std.proofs.lemmas.Bool.{lt-ltb}
 use Rattle.cycles.specs.Round.{sum, top, met, onward}
-use Rattle.cycles.proofs.Rounds.{top_on, met_slides, met_least, onward_at, onward_within, sum_same, met_same, top_same}
+use Rattle.cycles.proofs.Rounds.{top_on, met_slides, met_least, onward_at, sum_same, met_same, top_same}
 use Rattle.paced.specs.Runs.{at, largest, largest_from}
 
 -- place i of a cycle of n, where a loop over the places stands; after the last it is the first again
@@ -25,9 +25,6 @@ module _ (xs : List ℕ) (m i w b : ℕ) (within : i < length xs) (short : m < l
   end_is : (e : ℕ) → e ≡ cond (ltb (i + m) (length xs)) (i + m) (i + m - length xs) → e ≡ onward (length xs) i m
   end_is e p = p ∙ sym (onward_at (length xs) i m within short)
 
-  pub end_within : (e : ℕ) → e ≡ cond (ltb (i + m) (length xs)) (i + m) (i + m - length xs) → e < length xs
-  end_within e p = omega (arith, end_is e p, onward_within (length xs) i m within)
-
   pub window_slides : (e : ℕ) → e ≡ cond (ltb (i + m) (length xs)) (i + m) (i + m - length xs) → w + at xs e ≡ at xs i + met (length xs) (at xs) (turn (length xs) (i + 1)) m
   window_slides e p = omega (arith, w_here, ap (at xs) (end_is e p), met_slides (length xs) (at xs) i m)
 
@@ -35,16 +32,6 @@ module _ (xs : List ℕ) (m i w b : ℕ) (within : i < length xs) (short : m < l
   best_grows h = omega (arith, h, w_here, top_on (λ p. met (length xs) (at xs) p m) i)
 
 -- the first n of some costs, as a part `costs[..n]` has them
-
-small_none : (i : ℕ) → get_or {A = ℕ} [] i 0 ≤ 1000000
-small_none zero = omega arith
-small_none (suc i) = omega arith
-
-pub small_front : (xs : List ℕ) (n : ℕ) → ((i : ℕ) → at xs i ≤ 1000000) → (i : ℕ) → at (take n xs) i ≤ 1000000
-small_front xs zero h i = small_none i
-small_front [] (suc n) h i = small_none i
-small_front (x ∷ xs) (suc n) h zero = h zero
-small_front (x ∷ xs) (suc n) h (suc i) = small_front xs n (λ j. h (suc j)) i
 
 module _ (xs : List ℕ) (n : ℕ) (short : n ≤ length xs) where
   pub front_length : length (take n xs) ≡ n
