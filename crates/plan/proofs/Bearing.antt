@@ -1,6 +1,6 @@
 -- Which holds the tasks above can bear.
 use Rattle.std.proofs.Common.{◌≡◌, ℕ, zero, suc, ◌<◌, ◌≤◌, Bool, true, false, cond, ◌&&◌, leb, nat_le, sym, List, [], ◌∷◌, length, take, Some, None, Option, refl, ap, ◌∙◌, inl, inr, add-one, arith}
-use Rattle.std.proofs.Math.Bool.{and_comm}
+use Rattle.std.proofs.Math.Bool.{and-true, and_comm}
 use Rattle.std.proofs.lemmas.Bool.{leb-true, and_parts, cases_lt}
 use Rattle.std.proofs.lemmas.List.{take_more}
 use Rattle.std.proofs.lemmas.List.Folds.{list_all-append}
@@ -16,10 +16,6 @@ bears_each limits h (suc n) e i l =
     let p = and_parts (leb h (limit_at limits n).blocking) (bearable limits h n) e in
     elim (cases_lt i n) [ inl below ↦ bears_each limits h n p.1 i below | inr here ↦ (let same : i ≡ n = omega arith in omega (arith, ap (λ k. (limit_at limits k).blocking) same, leb-true h (limit_at limits n).blocking p.0)) ]
 
-and_true : (a : Bool) → (a && true) ≡ a
-and_true true = refl
-and_true false = refl
-
 -- the limits in use, one after another
 pub front_bears : (limits : List Limit) (h n : ℕ) → n ≤ length limits → list_all (λ limit. nat_le h limit.blocking) (take n limits) ≡ bearable limits h n
 front_bears limits h zero s = refl
@@ -29,7 +25,7 @@ front_bears limits h (suc n) s =
     ap (λ k. list_all bears (take k limits)) (sym (add-one n))
     ∙ ap (list_all bears) (take_more limits n unlimited (omega arith))
     ∙ list_all-append bears (take n limits) (here ∷ [])
-    ∙ (λ j. front_bears limits h n (omega arith) j && and_true (bears here) j)
+    ∙ (λ j. front_bears limits h n (omega arith) j && and-true (bears here) j)
     ∙ and_comm (bearable limits h n) (bears here)
 
 -- where no fault is found in either of two, none is found in both

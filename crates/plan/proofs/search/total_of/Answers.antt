@@ -1,6 +1,6 @@
 use Rattle.std.proofs.Common.{◌≡◌, ◌+◌, ap, ◌∙◌, arith}
 use Rattle.plan.specs.Needs.{total}
-use Rattle.plan.proofs.Totals.{asked, total_on, total_small}
+use Rattle.plan.proofs.Totals.{asked, total_small}
 use Rattle.plan.proofs.search.total_of.Goals as goal
 
 pub overflow_add-all : goal.overflow_add-all
@@ -12,15 +12,6 @@ overflow_add-all g c =
     let l = c.args.ticks in
     let here = asked (g.S.Source.parts s) k l (d (k + 1) l) c.demand.result (omega arith) c.requires.window c.demand.ensures in
     omega (arith, here, c.unwrap_or-all.ensures, c.loop-place.invariant, sound.small (k + 1) l c.requires.window, total_small (g.S.Source.parts s) d (g.S.Source.allowed s) sound k l c.requires.window)
-
-pub loop-place-preserved : goal.loop-place-preserved
-loop-place-preserved g c =
-    let s = c.args.source.now in
-    let d = g.S.Source.demanded s in
-    let k = c.loop-place.place in
-    let l = c.args.ticks in
-    let here = asked (g.S.Source.parts s) k l (d (k + 1) l) c.demand.result (omega arith) c.requires.window c.demand.ensures in
-    omega (arith, here, c.unwrap_or-all.ensures, c.loop-place.invariant, total_on d k l)
 
 pub returns : goal.returns
 returns g c =

@@ -7,16 +7,6 @@ use Rattle.plan.proofs.Adding.{Right, right_limits, add_deadlines, add_blockings
 use Rattle.plan.proofs.Bearing.{first_none}
 use Rattle.plan.proofs.tasks.Tasks.add.Goals as goal
 
-pub returns-in_err-add : goal.returns-in_err-add
-returns-in_err-add c =
-    let a = c.fault.result in
-    let b = c.limit_fault.result in
-    let none : first_of a b ≡ None = search rules in
-    let clean : a ≡ None = (first_none a b none).0 in
-    let found = c.in_err-add.ensures.0 in
-    let z : ◌≡◌ {A = ℕ} 0 1 = cc (c.fault.ensures, clean, found) in
-    absurd (omega arith)
-
 pub invariant_of-self : goal.invariant_of-self
 invariant_of-self c =
     let s = c.args.self.now in
