@@ -6,6 +6,7 @@ ghost use Rattle.paced.specs.Makes.{fault_of, fresh};
 ghost use Rattle.arrivals.specs.Steps.{answer, after, played, moved};
 ghost use Rattle.arrivals.specs.Times.{AllAnswered};
 
+use paced::row::Pace;
 use paced::single::Paced;
 use refusal::Refusal;
 use source::Gate;
@@ -31,24 +32,18 @@ fn make(part: &mut Paced, step: Step) -> bool
     }
 }
 
-// Makes a part with these numbers, or says why there is none, and takes it through the steps, as many as there is room
+// Makes a part of that pace, or says why there is none, and takes it through the steps, as many as there is room
 // for answers. After each step it writes whether the step was taken. Answers beyond the steps are unchanged.
 //
 // An offer within the cost that is due is refused exactly when no arrival times explain it and the offers already taken:
 // arrivals are at least the period apart, the first may be before the start, and each offer comes after its own arrival
 // by at most the jitter.
-pub fn replay(
-    period: u32,
-    jitter: u32,
-    costs: &[u32],
-    steps: &[Step],
-    taken: &mut [bool],
-) -> Result<Paced, Refusal>
-    ensures refused { MatchResult result (λ _. fault_of period jitter costs.now ≡ None) (λ e. (fault_of period jitter costs.now ≡ Some e.fault) × (e.line ≡ 0) × (e.task ≡ 0) × (taken.new ≡ taken.old)) }
-    ensures played { IfOk result (λ p. (taken.new ≡ played (fresh period jitter costs.now) steps.now taken.old) × (p.row ≡ moved (fresh period jitter costs.now) steps.now taken.old)) }
-    ensures explained { OnOk result (AllAnswered period jitter costs.now steps.now taken.new) }
+pub fn replay(pace: Pace, steps: &[Step], taken: &mut [bool]) -> Result<Paced, Refusal>
+    ensures refused { MatchResult result (λ _. fault_of pace.entry.period pace.entry.jitter pace.entry.costs.now ≡ None) (λ e. (fault_of pace.entry.period pace.entry.jitter pace.entry.costs.now ≡ Some e.fault) × (e.line ≡ 0) × (e.task ≡ 0) × (taken.new ≡ taken.old)) }
+    ensures played { IfOk result (λ p. (taken.new ≡ played (fresh pace.entry.period pace.entry.jitter pace.entry.costs.now) steps.now taken.old) × (p.row ≡ moved (fresh pace.entry.period pace.entry.jitter pace.entry.costs.now) steps.now taken.old)) }
+    ensures explained { OnOk result (AllAnswered pace.entry.period pace.entry.jitter pace.entry.costs.now steps.now taken.new) }
 {
-    let mut part = Paced::new(period, jitter, costs)?;
+    let mut part = Paced::new(pace)?;
     // a loop over an adapter of `iter_mut` tells a proof nothing of what it writes, so the answers go by place
     let count = steps.len().min(taken.len());
     for (place, step) in steps[..count].iter().enumerate() {

@@ -28,9 +28,9 @@ loop-place-preserved c =
 
 pub returns : goal.returns
 returns c =
-    let t = c.args.period in
-    let j = c.args.jitter in
-    let xs = c.args.costs.now in
+    let t = c.args.pace.period in
+    let j = c.args.pace.jitter in
+    let xs = c.args.pace.costs.now in
     let ss = c.args.steps.now in
     let first = c.args.taken.now in
     let bs = c.loop-place.taken in
