@@ -1,4 +1,5 @@
 use paced::rack::Rack;
+use paced::row::Pace;
 use plan::stages::OpenPlan;
 use plan::tasks::Limit;
 use plan::verdict::Verdict;
@@ -7,6 +8,14 @@ use schedule::cyclic::Schedule;
 use source::Source;
 use source::pair::Pair;
 use std::test::Fail;
+
+fn pace(period: u32, jitter: u32, costs: &[u32]) -> Pace<'_> {
+    Pace {
+        period,
+        jitter,
+        costs,
+    }
+}
 
 fn limit(blocking: u32, deadline: u32, hold: u32) -> Limit {
     Limit {
@@ -54,7 +63,7 @@ fn construction_machine(rt: HostRuntime) -> Result<(), Fail> {
     let mut plan = OpenPlan::new(bank);
     for (deadline, cost) in [(100, 7), (100, 8), (2000, 8)] {
         assert_eq!(rt;
-            refused(plan.add(2000, 0, limit(0, deadline, 0), &[cost])),
+            refused(plan.add(pace(2000, 0, &[cost]), limit(0, deadline, 0))),
             (0, 0)
         );
     }
@@ -107,10 +116,13 @@ fn adding(rt: HostRuntime) {
     ];
     for (period, jitter, numbers, costs, fault) in cases {
         let mut plan = OpenPlan::new(Rack::new());
-        assert_eq!(rt; refused(plan.add(100, 0, limit(2, 100, 0), one)), (0, 0));
+        assert_eq!(rt;
+            refused(plan.add(pace(100, 0, one), limit(2, 100, 0))),
+            (0, 0)
+        );
         let task = if fault == 0 { 0 } else { 2 };
         assert_eq!(rt;
-            refused(plan.add(period, jitter, numbers, costs)),
+            refused(plan.add(pace(period, jitter, costs), numbers)),
             (fault, task)
         );
     }
@@ -120,10 +132,13 @@ fn adding(rt: HostRuntime) {
 fn sixteen_tasks(rt: HostRuntime) {
     let mut plan = OpenPlan::new(Rack::new());
     for _ in 0..16 {
-        assert_eq!(rt; refused(plan.add(1000, 0, limit(0, 1000, 0), &[1])), (0, 0));
+        assert_eq!(rt;
+            refused(plan.add(pace(1000, 0, &[1]), limit(0, 1000, 0))),
+            (0, 0)
+        );
     }
     assert_eq!(rt;
-        refused(plan.add(1000, 0, limit(0, 1000, 0), &[1])),
+        refused(plan.add(pace(1000, 0, &[1]), limit(0, 1000, 0))),
         (5, 17)
     );
     let judged = plan.judge();
@@ -141,14 +156,14 @@ fn sixteen_tasks(rt: HostRuntime) {
 fn rack(parts: u32) -> Rack {
     let mut rack = Rack::new();
     for _ in 0..parts {
-        let _ = rack.add(1000, 0, &[1]);
+        let _ = rack.add(pace(1000, 0, &[1]));
     }
     rack
 }
 
 fn verdict_over<S: Source + Drop>(bank: S) -> Verdict {
     let mut plan = OpenPlan::new(bank);
-    let _ = plan.add(1000, 0, limit(0, 1000, 0), &[1]);
+    let _ = plan.add(pace(1000, 0, &[1]), limit(0, 1000, 0));
     plan.judge().verdict()
 }
 
@@ -176,9 +191,18 @@ fn parts_of_a_bank(rt: HostRuntime) -> Result<(), Fail> {
 #[test]
 fn late_tasks(rt: HostRuntime) {
     let mut plan = OpenPlan::new(rack(1));
-    assert_eq!(rt; refused(plan.add(100, 0, limit(0, 100, 0), &[3])), (0, 0));
-    assert_eq!(rt; refused(plan.add(100, 0, limit(0, 6, 0), &[3])), (0, 0));
-    assert_eq!(rt; refused(plan.add(100, 0, limit(0, 5, 0), &[3])), (0, 0));
+    assert_eq!(rt;
+        refused(plan.add(pace(100, 0, &[3]), limit(0, 100, 0))),
+        (0, 0)
+    );
+    assert_eq!(rt;
+        refused(plan.add(pace(100, 0, &[3]), limit(0, 6, 0))),
+        (0, 0)
+    );
+    assert_eq!(rt;
+        refused(plan.add(pace(100, 0, &[3]), limit(0, 5, 0))),
+        (0, 0)
+    );
     let judged = plan.judge();
     assert_eq!(rt; judged.verdict(), Verdict::Late(2));
     let mut bounds = [7; 3];

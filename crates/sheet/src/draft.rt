@@ -1,11 +1,13 @@
 // A plan as it is read, row after row.
 ghost use Rattle.std.specs.Prelude.{◌≡◌, Ok, Err, MatchResult};
-ghost use Rattle.lines.specs.declared.row.Row.TheVariants.{At, Irq, Task};
+ghost use Rattle.lines.specs.declared.row.Row.TheVariants.{At};
+ghost use Rattle.sheet.specs.Drafts.{irq_line, task_line};
 ghost use Rattle.sheet.specs.Rowing.{begun, gone_on};
 ghost use Rattle.sheet.specs.Views.{view};
 
-use lines::row::{Costs, Row};
+use lines::row::Row;
 use paced::rack::Rack;
+use paced::row::Pace;
 use plan::tasks::{Limit, Tasks};
 use refusal::{Fault, Refusal};
 use schedule::cyclic::Schedule;
@@ -48,29 +50,23 @@ impl Draft {
     }
 
     // One interrupt more, which has to come before tasks.
-    fn add_irq(&mut self, period: u32, jitter: u32, costs: Costs) -> Result<(), Refusal>
-        ensures { MatchResult result (λ _. gone_on (view self.old) (Irq period jitter costs) ≡ Ok (view self.new)) (λ e. gone_on (view self.old) (Irq period jitter costs) ≡ Err e) }
+    fn add_irq(&mut self, pace: Pace) -> Result<(), Refusal>
+        ensures { MatchResult result (λ _. irq_line (view self.old) pace.entry.period pace.entry.jitter pace.entry.costs.now ≡ Ok (view self.new)) (λ e. irq_line (view self.old) pace.entry.period pace.entry.jitter pace.entry.costs.now ≡ Err e) }
     {
         if self.tasks.count() > 0 {
             return Err(Refusal::plain(Fault::BadLine));
         }
-        self.rack.add(period, jitter, costs.list())?;
+        self.rack.add(pace)?;
         Ok(())
     }
 
     // One task more.
-    fn add_task(
-        &mut self,
-        period: u32,
-        jitter: u32,
-        limit: Limit,
-        costs: Costs,
-    ) -> Result<(), Refusal>
-        ensures { MatchResult result (λ _. gone_on (view self.old) (Task period jitter limit.blocking limit.deadline limit.hold costs) ≡ Ok (view self.new)) (λ e. gone_on (view self.old) (Task period jitter limit.blocking limit.deadline limit.hold costs) ≡ Err e) }
+    fn add_task(&mut self, pace: Pace, limit: Limit) -> Result<(), Refusal>
+        ensures { MatchResult result (λ _. task_line (view self.old) pace.entry.period pace.entry.jitter limit.blocking limit.deadline limit.hold pace.entry.costs.now ≡ Ok (view self.new)) (λ e. task_line (view self.old) pace.entry.period pace.entry.jitter limit.blocking limit.deadline limit.hold pace.entry.costs.now ≡ Err e) }
     {
         let task = self.tasks.count() + 1;
         // No `map_err`: with it the search for the proof gives up.
-        if let Err(fault) = self.tasks.add(period, jitter, limit, costs.list()) {
+        if let Err(fault) = self.tasks.add(pace, limit) {
             return Err(Refusal {
                 fault,
                 line: 0,
@@ -91,7 +87,11 @@ impl Draft {
                 period,
                 jitter,
                 costs,
-            } => self.add_irq(period, jitter, costs),
+            } => self.add_irq(Pace {
+                period,
+                jitter,
+                costs: costs.list(),
+            }),
             Row::Task {
                 period,
                 jitter,
@@ -100,12 +100,17 @@ impl Draft {
                 hold,
                 costs,
             } => {
+                let pace = Pace {
+                    period,
+                    jitter,
+                    costs: costs.list(),
+                };
                 let limit = Limit {
                     blocking,
                     deadline,
                     hold,
                 };
-                self.add_task(period, jitter, limit, costs)
+                self.add_task(pace, limit)
             }
         }
     }
