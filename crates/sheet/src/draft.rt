@@ -65,15 +65,11 @@ impl Draft {
         ensures { MatchResult result (λ _. task_line (view self.old) pace.entry.period pace.entry.jitter limit.blocking limit.deadline limit.hold pace.entry.costs.now ≡ Ok (view self.new)) (λ e. task_line (view self.old) pace.entry.period pace.entry.jitter limit.blocking limit.deadline limit.hold pace.entry.costs.now ≡ Err e) }
     {
         let task = self.tasks.count() + 1;
-        // No `map_err`: with it the search for the proof gives up.
-        if let Err(fault) = self.tasks.add(pace, limit) {
-            return Err(Refusal {
-                fault,
-                line: 0,
-                task,
-            });
-        }
-        Ok(())
+        self.tasks.add(pace, limit).map_err(|fault| Refusal {
+            fault,
+            line: 0,
+            task,
+        })
     }
 
     // What a later row makes of the draft: pairs come before interrupts, and these before tasks.
