@@ -4,6 +4,7 @@ use arrivals::{Step, replay};
 use calls::{Answer, Call, Got};
 use guarantee::rehearse;
 use paced::rack::Rack;
+use paced::row::Pace;
 use paced::single::Paced;
 use plan::stages::OpenPlan;
 use plan::tasks::Limit;
@@ -88,11 +89,19 @@ fn number<T: Drop>(made: Result<T, Refusal>) -> u32 {
     }
 }
 
+fn pace(period: u32, jitter: u32, costs: &[u32]) -> Pace<'_> {
+    Pace {
+        period,
+        jitter,
+        costs,
+    }
+}
+
 // Two interrupts.
 fn rack() -> Rack {
     let mut rack = Rack::new();
-    let _ = rack.add(10, 2, &[3]);
-    let _ = rack.add(5, 0, &[2, 6]);
+    let _ = rack.add(pace(10, 2, &[3]));
+    let _ = rack.add(pace(5, 0, &[2, 6]));
     rack
 }
 
@@ -209,7 +218,7 @@ fn too_many_parts(rt: HostRuntime) -> Result<(), Fail> {
 
 #[test]
 fn windows(rt: HostRuntime) -> Result<(), Fail> {
-    let Ok(paced) = Paced::new(10, 2, &[1]) else {
+    let Ok(paced) = Paced::new(pace(10, 2, &[1])) else {
         return Err(Fail::new("no part"));
     };
     let ends = [
@@ -223,7 +232,7 @@ fn windows(rt: HostRuntime) -> Result<(), Fail> {
     ];
     ask(&rt, &paced, 1, &ends);
     ask(&rt, &paced, 2, &[(5, None)]);
-    let Ok(costs) = Paced::new(5, 0, &[4, 1, 1, 3]) else {
+    let Ok(costs) = Paced::new(pace(5, 0, &[4, 1, 1, 3])) else {
         return Err(Fail::new("no part"));
     };
     ask(
@@ -240,7 +249,7 @@ fn windows(rt: HostRuntime) -> Result<(), Fail> {
 
 #[test]
 fn one_paced_part(rt: HostRuntime) -> Result<(), Fail> {
-    let Ok(mut paced) = Paced::new(10, 2, &[1]) else {
+    let Ok(mut paced) = Paced::new(pace(10, 2, &[1])) else {
         return Err(Fail::new("no part"));
     };
     let cases = [
@@ -332,19 +341,28 @@ fn paced_makers(rt: HostRuntime) {
         (1, 0, one, 0),
     ];
     for (period, jitter, costs, fault) in cases {
-        assert_eq!(rt; number(Paced::new(period, jitter, costs)), fault);
+        assert_eq!(rt; number(Paced::new(pace(period, jitter, costs))), fault);
         let mut rack = Rack::new();
         assert_eq!(rt;
-            number(rack.add(period, jitter, costs).map_err(Refusal::from)),
+            number(rack.add(pace(period, jitter, costs)).map_err(Refusal::from)),
             fault
         );
     }
     let mut rack = Rack::new();
     for _ in 0..8 {
-        assert_eq!(rt; number(rack.add(10, 2, one).map_err(Refusal::from)), 0);
+        assert_eq!(rt;
+            number(rack.add(pace(10, 2, one)).map_err(Refusal::from)),
+            0
+        );
     }
-    assert_eq!(rt; number(rack.add(10, 2, one).map_err(Refusal::from)), 5);
-    assert_eq!(rt; number(rack.add(0, 0, none).map_err(Refusal::from)), 5);
+    assert_eq!(rt;
+        number(rack.add(pace(10, 2, one)).map_err(Refusal::from)),
+        5
+    );
+    assert_eq!(rt;
+        number(rack.add(pace(0, 0, none)).map_err(Refusal::from)),
+        5
+    );
     assert_eq!(rt; rack.count(), 8);
 }
 
@@ -398,12 +416,12 @@ fn replayed(rt: HostRuntime) {
         Step::Offer(1),
     ];
     let mut taken = [false; 11];
-    assert_eq!(rt; number(replay(10, 2, &[1], &steps, &mut taken)), 0);
+    assert_eq!(rt; number(replay(pace(10, 2, &[1]), &steps, &mut taken)), 0);
     let right = [
         true, true, true, true, true, true, true, true, false, true, true,
     ];
     assert_eq!(rt; taken, right);
-    assert_eq!(rt; number(replay(10, 10, &[1], &steps, &mut taken)), 7);
+    assert_eq!(rt; number(replay(pace(10, 10, &[1]), &steps, &mut taken)), 7);
 }
 
 // A run over a gate of another author's, from a state that is not its first: one unit of its first store is gone. The task
@@ -419,7 +437,7 @@ fn rehearsed(rt: HostRuntime) -> Result<(), Fail> {
         deadline: 40,
         hold: 0,
     };
-    plan.add(40, 0, limit, &[2])?;
+    plan.add(pace(40, 0, &[2]), limit)?;
     let calls = [
         Call::Offer(1, 3),
         Call::Offer(1, 2),

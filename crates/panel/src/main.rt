@@ -3,6 +3,7 @@
 #![tactic(auto)]
 
 use paced::rack::Rack;
+use paced::row::Pace;
 use plan::stages::OpenPlan;
 use plan::tasks::Limit;
 use plan::verdict::Verdict;
@@ -19,7 +20,11 @@ const WINDOW: u32 = 24;
 // and 2 units at tick 5.
 fn bank() -> Result<Pair<Rack, Schedule>, Refusal> {
     let mut rack = Rack::new();
-    rack.add(10, 2, &[1])?;
+    rack.add(Pace {
+        period: 10,
+        jitter: 2,
+        costs: &[1],
+    })?;
     let mut schedule = Schedule::new(12)?;
     schedule.add(0, 3)?;
     schedule.add(5, 2)?;
@@ -55,24 +60,28 @@ fn drive<G: Gate>(heap: Global, bank: &mut G, ticks: u32) -> Result<Vec<u64>, Al
 fn plan(deadline: u32) -> Result<OpenPlan<Pair<Rack, Schedule>>, Refusal> {
     let mut plan = OpenPlan::new(bank()?);
     plan.add(
-        40,
-        0,
+        Pace {
+            period: 40,
+            jitter: 0,
+            costs: &[2],
+        },
         Limit {
             blocking: 2,
             deadline,
             hold: 0,
         },
-        &[2],
     )?;
     plan.add(
-        60,
-        5,
+        Pace {
+            period: 60,
+            jitter: 5,
+            costs: &[3, 1],
+        },
         Limit {
             blocking: 0,
             deadline: 40,
             hold: 2,
         },
-        &[3, 1],
     )?;
     Ok(plan)
 }
