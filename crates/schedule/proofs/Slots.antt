@@ -1,6 +1,6 @@
 -- Pairs in a list.
 use Rattle.std.proofs.Common.{◌≡◌, ℕ, zero, suc, ◌+◌, ◌-◌, ◌*◌, ◌<◌, ◌≤◌, eqb, ltb, List, length, get_or, set, replicate, sym, refl, ap, ◌∙◌, subst, inl, inr, arith, get_or-set_other, get_or-set_same}
-use Rattle.std.proofs.lemmas.Bool.{cond_both, cond-true, cond-false, eq-eqb, ne_eqb, cases_eq}
+use Rattle.std.proofs.lemmas.Bool.{cond_both, cases_eq}
 use Rattle.cycles.specs.Round.{sum, top}
 use Rattle.cycles.proofs.Rounds.{sum_least, sum_on, sum_same}
 use Rattle.schedule.specs.Windows.{from_pair, window_end, pairs_suffice}
@@ -45,12 +45,6 @@ if_at_small slots p i h = cond_both (eqb (offset_of slots i) p) (length_of slots
 
 pub found_small : (slots : List Slot) (p i : ℕ) → ((i : ℕ) → length_of slots i ≤ 1000000) → sum (if_at slots p) i ≤ i * 1000000
 found_small slots p i h = sum_least (if_at slots p) i 1000000 (λ j _. if_at_small slots p j h)
-
-pub found_here : (slots : List Slot) (p i f : ℕ) → f ≡ sum (if_at slots p) i → offset_of slots i ≡ p → f + length_of slots i ≡ sum (if_at slots p) (i + 1)
-found_here slots p i f e at = omega (arith, sum_on (if_at slots p) i, cond-true (eqb (offset_of slots i) p) (length_of slots i) 0 (eq-eqb (offset_of slots i) p at))
-
-pub found_elsewhere : (slots : List Slot) (p i f : ℕ) → f ≡ sum (if_at slots p) i → (offset_of slots i ≡ p → ⊥) → f ≡ sum (if_at slots p) (i + 1)
-found_elsewhere slots p i f e ne = omega (arith, sum_on (if_at slots p) i, cond-false (eqb (offset_of slots i) p) (length_of slots i) 0 (ne_eqb (offset_of slots i) p ne))
 
 -- one pair more, s, behind the first n
 module _ (slots : List Slot) (n : ℕ) (s : Slot) (room : n < length slots) where

@@ -4,7 +4,7 @@ ghost use Rattle.cycles.specs.Round.{sum, next};
 ghost use Rattle.loads.specs.Share.{load_of};
 ghost use Rattle.source.specs.Facts.{is_part, single, offerable, Sound, Kept, Taken, Ticked, Driven};
 ghost use Rattle.schedule.specs.Makes.{cycle_fault, pair_fault};
-ghost use Rattle.schedule.specs.Phases.{none, offset_of, length_of, demand, allowance, later, Gives, View};
+ghost use Rattle.schedule.specs.Phases.{none, offset_of, length_of, demand, allowance, later, Gives};
 ghost use Rattle.schedule.specs.Views.{view_sound, view_taken, view_ticked};
 
 use crate::slot::{Round, Slot};
@@ -18,7 +18,8 @@ pub const PAIRS: u32 = 64;
 
 // A cycle of 1 or more ticks and up to 64 pairs of offset and length, the offsets strictly rising and below the cycle.
 // `phase` is the present tick of the cycle, `taken` whether its pair was offered already. `whole` is the sum of all
-// lengths.
+// lengths, kept so that it is added up once, a pair at a time, and not at each question.
+// The first `count` of `slots` are in use: the project wants parts in fixed memory, copied and not on the heap.
 #[derive(Clone, Copy)]
 pub struct Schedule {
     cycle: u32,
@@ -38,6 +39,8 @@ pub struct Schedule {
 }
 
 impl Schedule {
+    ghost use Rattle.schedule.specs.Seen.{view_of};
+
     // A schedule with no pair, at phase 0, or a refusal: a cycle of 0 or above 1,000,000.
     pub fn new(cycle: u32) -> Result<Schedule, Refusal>
         ensures { MatchResult result (λ s. (cycle_fault cycle ≡ None) × (s.cycle ≡ cycle) × (s.count ≡ 0) × (s.slots ≡ replicate 64 none) × (s.phase ≡ 0) × (s.taken ≡ false)) (λ e. (cycle_fault cycle ≡ Some e.fault) × (e.line ≡ 0) × (e.task ≡ 0)) }
@@ -61,6 +64,7 @@ impl Schedule {
 
     // One pair more behind the others, or a refusal: a 65th pair; a length of 0 or a number above 1,000,000; an offset
     // that is not below the cycle or not above that of the last pair.
+    #[tactic(auto, using(crate::proofs::Slots::sum_small))]
     pub fn add(&mut self, offset: u32, length: u32) -> Result<(), Refusal>
         ensures { MatchResult result (λ _. (pair_fault self.old.cycle self.old.count self.old.slots offset length ≡ None) × (self.new.cycle ≡ self.old.cycle) × (self.new.count ≡ self.old.count + 1) × (self.new.slots ≡ set self.old.slots self.old.count (record { offset = offset; length = length })) × (self.new.phase ≡ self.old.phase) × (self.new.taken ≡ self.old.taken)) (λ e. (pair_fault self.old.cycle self.old.count self.old.slots offset length ≡ Some e.fault) × (e.line ≡ 0) × (e.task ≡ 0) × (self.new ≡ self.old)) }
     {
@@ -104,7 +108,7 @@ impl Schedule {
 
     // The largest sum of lengths met in `ticks` ticks, from any phase on.
     fn largest(&self, ticks: u32) -> u64
-        ensures { result ≡ demand (record { cycle = self.now.cycle; count = self.now.count; slots = self.now.slots; phase = self.now.phase; taken = self.now.taken }) ticks }
+        ensures { result ≡ demand (view_of self.now) ticks }
     {
         let cycles = ticks / self.cycle;
         let rest = self.round().largest_met(ticks % self.cycle);
@@ -119,8 +123,9 @@ impl Schedule {
     }
 
     // The most that may be offered now.
+    #[tactic(auto, using(crate::specs::Views::front_length_at))]
     fn open(&self) -> u32
-        ensures { result ≡ allowance (record { cycle = self.now.cycle; count = self.now.count; slots = self.now.slots; phase = self.now.phase; taken = self.now.taken }) 1 }
+        ensures { result ≡ allowance (view_of self.now) 1 }
     {
         if self.taken {
             return 0;
@@ -130,41 +135,36 @@ impl Schedule {
 }
 
 impl Source for Schedule {
+    ghost use Rattle.schedule.specs.Seen.{view_of};
+    ghost use Rattle.schedule.specs.Fits.{fits};
+
     ghost parts = { λ _. 1 };
 
-    ghost demanded = { λ s. single (demand (record { cycle = s.cycle; count = s.count; slots = s.slots; phase = s.phase; taken = s.taken })) };
+    ghost demanded = { λ s. single (demand (view_of s)) };
 
-    ghost allowed = { λ s. single (allowance (record { cycle = s.cycle; count = s.count; slots = s.slots; phase = s.phase; taken = s.taken })) };
+    ghost allowed = { λ s. single (allowance (view_of s)) };
 
-    ghost sound = { λ s.
-        let v : View = record { cycle = s.cycle; count = s.count; slots = s.slots; phase = s.phase; taken = s.taken } in
-        view_sound v (record { cycle = s.turn.0; phase = s.turn.1; rising = s.rising; below = s.below; lengths = s.lengths }) };
+    ghost sound = { λ s. view_sound (view_of s) (fits s) };
 
     fn count(&self) -> u32 {
         1
     }
 
     fn demand(&self, part: u32, ticks: u32) -> Option<u64> {
-        if part == 1 && ticks <= LONGEST {
-            Some(self.largest(ticks))
-        } else {
-            None
-        }
+        (part == 1 && ticks <= LONGEST).then(|| self.largest(ticks))
     }
 
     fn allowance(&self, part: u32) -> Option<u64> {
-        if part == 1 {
-            Some(u64::from(self.open()))
-        } else {
-            None
-        }
+        (part == 1).then(|| u64::from(self.open()))
     }
 }
 
 impl Gate for Schedule {
-    ghost takes = { λ s k u t. Gives (record { cycle = s.cycle; count = s.count; slots = s.slots; phase = s.phase; taken = s.taken }) k u (record { cycle = t.cycle; count = t.count; slots = t.slots; phase = t.phase; taken = t.taken }) };
+    ghost use Rattle.schedule.specs.Seen.{view_of};
 
-    ghost ticks = { λ s t. record { cycle = t.cycle; count = t.count; slots = t.slots; phase = t.phase; taken = t.taken } ≡ later (record { cycle = s.cycle; count = s.count; slots = s.slots; phase = s.phase; taken = s.taken }) };
+    ghost takes = { λ s k u t. Gives (view_of s) k u (view_of t) };
+
+    ghost ticks = { λ s t. view_of t ≡ later (view_of s) };
 
     ghost driven = { record { taken = λ s t k u g. view_taken _ _ k u g; ticked = λ s t e. view_ticked _ _ e } };
 
@@ -176,6 +176,7 @@ impl Gate for Schedule {
         true
     }
 
+    #[tactic(auto, using(crate::specs::Views::view_ticked))]
     fn tick(&mut self) {
         self.phase = self.next_phase();
         self.taken = false;

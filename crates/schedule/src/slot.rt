@@ -1,5 +1,5 @@
 // Pairs of offset and length, and the largest sum of lengths in a window shorter than the cycle.
-ghost use Rattle.std.specs.Prelude.{◌≡◌, ℕ, ◌+◌, ◌-◌, ◌*◌, ◌<◌, ◌≤◌, length};
+ghost use Rattle.std.specs.Prelude.{◌≡◌, ℕ, ◌+◌, ◌-◌, ◌*◌, ◌<◌, ◌≤◌, length, max};
 ghost use Rattle.cycles.specs.Round.{sum, top};
 ghost use Rattle.schedule.specs.Phases.{offset_of, length_of, length_at, lengths_met, if_at};
 ghost use Rattle.schedule.specs.Twice.{offset_twice, units_twice};
@@ -17,6 +17,13 @@ pub struct Slot {
 struct Reach {
     end: usize,
     sum: u32,
+}
+
+// The larger of the largest sum so far and the sum from the next pair on.
+fn larger(best: u32, next: u32) -> u32
+    ensures { result ≡ max best next }
+{
+    best.max(next)
 }
 
 // The pairs in use and the cycle that they lie in: the offsets strictly rise and are below the cycle.
@@ -51,6 +58,7 @@ impl<'a> Round<'a> {
     }
 
     // The same window with its end moved on to `until`, but not past the place `limit`.
+    #[tactic(auto, using(crate::proofs::Slots::sum_twice_small))]
     fn moved_on(&self, mut reach: Reach, until: u32, limit: usize) -> Reach
         requires limit { limit ≤ length self.now.slots.now + length self.now.slots.now }
         requires end { reach.end ≤ limit }
@@ -74,6 +82,8 @@ impl<'a> Round<'a> {
     }
 
     // The largest sum of lengths met in `ticks` ticks, fewer than the cycle has, from any phase on: the largest from a pair.
+    // As the project wants it, a loop goes over the pairs with their index, sums and keeps the largest.
+    #[tactic(auto, using(crate::proofs::Slots::sum_small, crate::proofs::Slots::pairs_are_worst))]
     pub(crate) fn largest_met(&self, ticks: u32) -> u32
         requires { ticks < self.now.cycle }
         ensures { result ≡ top (lengths_met self.now.cycle (length self.now.slots.now) self.now.slots.now ticks) self.now.cycle }
@@ -84,13 +94,15 @@ impl<'a> Round<'a> {
         let mut reach = Reach { end: 0, sum: 0 };
         for (start, slot) in self.slots.iter().enumerate() {
             reach = self.moved_on(reach, slot.offset + ticks, size + start);
-            best = best.max(reach.sum - passed);
+            best = larger(best, reach.sum - passed);
             passed += slot.length;
         }
         best
     }
 
-    // The length at a phase: that of the pair there, or 0, which is how much may be offered where there is none.
+    // The length at a phase: that of the pair there, or 0, which is how much may be offered where there is none. As the
+    // project wants it, a loop over the pairs sums.
+    #[tactic(auto, using(crate::proofs::Slots::found_small))]
     pub(crate) fn length_at(&self, phase: u32) -> u32
         ensures { result ≡ length_at (length self.now.slots.now) self.now.slots.now phase }
     {

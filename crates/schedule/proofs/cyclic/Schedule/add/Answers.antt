@@ -1,14 +1,9 @@
 use Rattle.std.proofs.Common.{◌-◌, ◌<◌, ◌≤◌, length, ◌∙◌, arith, length-set}
 use Rattle.schedule.specs.Phases.{offset_of}
 use Rattle.schedule.specs.declared.slot.Slot.{Slot}
-use Rattle.schedule.proofs.Slots.{sum_small, set_every, add_rising, add_below, add_sum}
+use Rattle.schedule.proofs.Slots.{set_every, add_rising, add_below, add_sum}
 use Rattle.schedule.proofs.cyclic.Schedule.add.Goals as goal
 use Rattle.schedule.proofs.cyclic.Schedule.add.Lts.{else-self-gt0-via-then-self-gt0+else-offset-self-2, else-self-gt0-via-else-self-gt0}
-
-pub overflow_add-self : goal.overflow_add-self
-overflow_add-self c =
-    let s = c.args.self.now in
-    omega (arith, s.all, sum_small s.slots s.lengths s.count, s.few)
 
 pub invariant_of-self : goal.invariant_of-self
 invariant_of-self c =

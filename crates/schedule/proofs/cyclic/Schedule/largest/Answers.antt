@@ -1,15 +1,11 @@
-use Rattle.std.proofs.Common.{◌≡◌, ℕ, List, ◌+◌, ◌*◌, ◌/◌, ◌%◌, ◌<◌, ◌≤◌, length, sym, ◌∙◌, mod-lt, arith}
+use Rattle.std.proofs.Common.{◌≡◌, ℕ, List, ◌+◌, ◌*◌, ◌/◌, ◌%◌, ◌≤◌, length, sym, ◌∙◌, arith}
 use Rattle.cycles.specs.Round.{sum, top}
-use Rattle.schedule.specs.Phases.{View, length_of, lengths_met}
+use Rattle.schedule.specs.Fits.{fits}
+use Rattle.schedule.specs.Phases.{length_of, lengths_met}
+use Rattle.schedule.specs.Seen.{view_of}
 use Rattle.schedule.specs.Views.{demand_split, front_largest}
 use Rattle.schedule.specs.declared.slot.Slot.{Slot}
 use Rattle.schedule.proofs.cyclic.Schedule.largest.Goals as goal
-
-pub largest_met-rest-requires : goal.largest_met-rest-requires
-largest_met-rest-requires c =
-    let s = c.args.self.now in
-    let below : c.args.ticks % s.cycle < s.cycle = mod-lt c.args.ticks (omega arith) in
-    omega (arith, c.round.ensures.cycle, below)
 
 pub returns : goal.returns
 returns c =
@@ -17,8 +13,7 @@ returns c =
     let l = c.args.ticks in
     let within : s.count ≤ length s.slots = omega arith in
     let met = λ (k : ℕ) (slots : List Slot). top (lengths_met k (length slots) slots (l % s.cycle)) k in
-    let v : View = record { cycle = s.cycle; count = s.count; slots = s.slots; phase = s.phase; taken = s.taken } in
     let cycles : c.from.result ≡ l / s.cycle = c.from.ensures in
     let whole : c.from-2.result ≡ sum (length_of s.slots) s.count = c.from-2.ensures ∙ s.all in
     let rest : c.from-3.result ≡ top (lengths_met s.cycle s.count s.slots (l % s.cycle)) s.cycle = c.from-3.ensures ∙ c.largest_met-rest.ensures ∙ (λ i. met (c.round.ensures.cycle i) (c.round.ensures.slots i)) ∙ front_largest s.slots s.count within s.cycle (l % s.cycle) in
-    (λ i. cycles i * whole i + rest i) ∙ sym (demand_split v (record { cycle = s.turn.0; phase = s.turn.1; rising = s.rising; below = s.below; lengths = s.lengths }) l)
+    (λ i. cycles i * whole i + rest i) ∙ sym (demand_split (view_of s) (fits s) l)
