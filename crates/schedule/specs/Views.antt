@@ -1,14 +1,14 @@
 -- A schedule owes what a source and a gate owe.
 -- Lemmas only, which laws of traits cite; a reader of the definitions can pass over them.
-use Rattle.std.specs.Prelude.{◌≡◌, ℕ, zero, suc, ◌+◌, ◌*◌, ◌/◌, ◌%◌, ◌<◌, ◌≤◌, true, cond, List, length, take, ◌==◌, slice_index_or}
+use Rattle.std.specs.Prelude.{◌≡◌, ℕ, zero, suc, ◌+◌, ◌*◌, ◌/◌, ◌%◌, ◌<◌, ◌≤◌, cond, List, length, take, ◌==◌, slice_index_or}
 use Rattle.std.proofs.Common.{sym, ap, ◌∙◌, subst, arith, add-one}
 use Rattle.std.proofs.Math.Path.{fun_ext}
 use Rattle.std.proofs.lemmas.Bool.{cond_both}
 use Rattle.std.proofs.lemmas.List.{length-take-le, get_or-take}
 use Rattle.cycles.specs.Round.{sum, top, met}
 use Rattle.cycles.proofs.Rounds.{top_at, top_least, top_rises, top_split, met_rises, met_least, met_first, sum_same}
-use Rattle.source.specs.Facts.{single, offerable, Sound, Kept, Taken, Ticked}
-use Rattle.source.proofs.Parts.{single_at, single_sound, single_kept, single_taken, single_ticked, offerable_parts, offerable_from, part_from}
+use Rattle.source.specs.Facts.{single, Sound, Kept, Taken, Ticked}
+use Rattle.source.proofs.Parts.{single_at, single_sound, single_kept, single_taken, single_ticked, offerable_parts}
 use Rattle.schedule.specs.Phases.{none, offset_of, length_of, if_at, length_at, lengths_met, View, demand, allowance, offered, later, Gives}
 use Rattle.schedule.specs.declared.slot.Slot.{Slot}
 use Rattle.schedule.specs.Windows.{whole_is, at_phase_small}
@@ -80,9 +80,6 @@ view_ticked v w e = (single_kept (demand v) (demand w) (ap demand e), single_tic
     shorter : (l : ℕ) → allowance (later v) l ≤ allowance v (l + 1)
     shorter zero = omega arith
     shorter (suc l) = subst (λ k. allowance (later v) (suc l) ≤ allowance v k) (sym (add-one (suc l))) (omega arith)
-
-pub view_offered : (v : View) (k u : ℕ) → k ≡ 1 → 1 ≤ u → u ≤ allowance v 1 → offerable 1 (single (allowance v)) k u ≡ true
-view_offered v k u e some within = offerable_from 1 (single (allowance v)) k u (part_from 1 k (omega arith) (omega arith)) some (subst (λ x. u ≤ x) (sym (single_at (allowance v) k 1 e)) within)
 
 -- the first n pairs, those in use, as the part `slots[..n]` has them
 module _ (slots : List Slot) (n : ℕ) (short : n ≤ length slots) where
