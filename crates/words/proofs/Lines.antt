@@ -1,6 +1,6 @@
 -- The words of a line, one after another.
-use Rattle.std.proofs.Common.{◌≡◌, ℕ, ◌-◌, ◌<◌, ◌≤◌, Bool, true, false, cond, ◌&&◌, eqb, List, [], ◌∷◌, length, take, drop, is_some, Some, None, Option, sym, ap, ◌∙◌, arith}
-use Rattle.std.proofs.lemmas.List.{nil_from_length, take_rest, length-drop}
+use Rattle.std.proofs.Common.{◌≡◌, ℕ, ◌<◌, ◌≤◌, Bool, true, false, cond, ◌&&◌, eqb, List, [], ◌∷◌, length, is_some, Some, None, Option, sym, ap, ◌∙◌, arith}
+use Rattle.std.proofs.lemmas.List.{nil_from_length}
 use Rattle.refusal.specs.declared.Fault.{Fault}
 use Rattle.refusal.specs.declared.Fault.TheVariants.{ForeignByte, BadWord}
 use Rattle.words.specs.Bytes.{clean}
@@ -37,18 +37,14 @@ module _ (line rest : List ℕ) (known : clean line ≡ true) (so_far : words_go
     good_on : words_good (pieces 32 line) ≡ words_good (following 32 after)
     good_on = so_far ∙ good_first rest ∙ ap (λ o. is_some o && words_good (following 32 (onward 32 rest))) first ∙ ap (λ ys. words_good (following 32 ys)) (sym is)
 
-    pub good_line : length after < 1 → line_fault line ≡ None
+    pub good_line : length after ≡ 0 → line_fault line ≡ None
     good_line none =
         ap (λ b. fault_by b (words_good (pieces 32 line))) known
-        ∙ ap (λ b. fault_by true b) (good_on ∙ ap (λ ys. words_good (following 32 ys)) (nil_from_length after (omega arith)))
+        ∙ ap (λ b. fault_by true b) (good_on ∙ ap (λ ys. words_good (following 32 ys)) (nil_from_length after none))
 
-past_space : (after : List ℕ) → 1 ≤ length after → following 32 after ≡ pieces 32 (take (length after - 1) (drop 1 after))
-past_space [] h = absurd (omega arith)
-past_space (y ∷ ys) h = ap (pieces 32) (sym (take_rest (y ∷ ys) 1))
+-- one word on, past the space
+pub next_words : (line rest : List ℕ) (w : Word) (space : ℕ) (words : List ℕ) → clean line ≡ true → words_good (pieces 32 line) ≡ words_good (pieces 32 rest) → word_of (before 32 rest) ≡ Some w → space ∷ words ≡ onward 32 rest → words_good (pieces 32 line) ≡ words_good (pieces 32 words)
+next_words line rest w space words known so_far first is = good_on line rest known so_far w (space ∷ words) first is
 
--- one word on
-pub next_words : (line rest : List ℕ) (w : Word) (after : List ℕ) → clean line ≡ true → words_good (pieces 32 line) ≡ words_good (pieces 32 rest) → word_of (before 32 rest) ≡ Some w → after ≡ onward 32 rest → 1 ≤ length after → words_good (pieces 32 line) ≡ words_good (pieces 32 (take (length after - 1) (drop 1 after)))
-next_words line rest w after known so_far first is some = good_on line rest known so_far w after first is ∙ ap words_good (past_space after some)
-
-pub next_shorter : (rest after : List ℕ) → after ≡ onward 32 rest → 1 ≤ length after → length (take (length after - 1) (drop 1 after)) < length rest
-next_shorter rest after is some = omega (arith, ap length is, onward_shorter 32 rest, ap length (take_rest after 1), length-drop 1 after)
+pub next_shorter : (rest : List ℕ) (space : ℕ) (words : List ℕ) → space ∷ words ≡ onward 32 rest → length words < length rest
+next_shorter rest space words is = omega (arith, ap length is, onward_shorter 32 rest)

@@ -16,8 +16,8 @@ pub struct Line<'a> {
     pub number: u32,
 }
 
-// A word: its spelling in the sheet, the number of its line, and the place of its first byte in that line. Each case has all
-// three, and no struct for them: a token is its kind first, and borrows its spelling in either.
+// A word: its spelling in the sheet, the number of its line, and the place of its first byte in that line. These three stand in
+// both cases, and not in a struct beside a kind: so a pattern names what it wants in one step.
 #[derive(Clone, Copy)]
 pub enum Token<'a> {
     Keyword {
@@ -69,9 +69,9 @@ pub fn check_line(line: Line) -> Result<(), Fault>
     let mut rest = line.bytes;
     loop {
         let (_, after) = next_token(line, rest)?;
-        if after.is_empty() {
+        let Some((_, words)) = after.split_first() else {
             return Ok(());
-        }
-        rest = &after[1..];
+        };
+        rest = words;
     }
 }

@@ -1,4 +1,4 @@
-use Rattle.std.proofs.Common.{◌<◌, ◌≤◌, length, Some, sym, ap, ◌∙◌, arith, true-eqb, false-eqb}
+use Rattle.std.proofs.Common.{Some, sym, ap, ◌∙◌}
 use Rattle.std.proofs.lemmas.Result.{err_from_is_err_and}
 use Rattle.words.specs.Tokens.{told}
 use Rattle.words.proofs.Cutting.{only_cut}
@@ -18,21 +18,14 @@ returns-in_err-after c =
     rw (p.1, p.2)
     (record { fault = bad_line line c.loop-after.rest.now (sym c.if-not-is_clean.ensures) c.loop-after.invariant bad.0 ∙ ap Some (sym bad.1); words = only_cut 32 line })
 
-pub returns-then-is_empty : goal.returns-then-is_empty
-returns-then-is_empty c =
+pub returns-in_default : goal.returns-in_default
+returns-in_default c =
     let line = c.args.line.bytes.now in
     let next = c.in_ok-after.ensures in
-    let none : length c.in_ok-after.after.now < 1 = omega (arith, true-eqb _ 0 c.if-is_empty.ensures) in
-    record { fault = good_line line c.loop-after.rest.now (sym c.if-not-is_clean.ensures) c.loop-after.invariant (told c.in_ok-after.field-0-0).word c.in_ok-after.after.now next.word next.after none; words = only_cut 32 line }
+    record { fault = good_line line c.loop-after.rest.now (sym c.if-not-is_clean.ensures) c.loop-after.invariant (told c.in_ok-after.field-0-0).word c.in_ok-after.after.now next.word next.after c.in_default.ensures.cases; words = only_cut 32 line }
 
 pub loop-after-smaller : goal.loop-after-smaller
-loop-after-smaller c =
-    let next = c.in_ok-after.ensures in
-    let some : 1 ≤ length c.in_ok-after.after.now = omega (arith, false-eqb _ 0 c.if-is_empty.ensures) in
-    next_shorter c.loop-after.rest.now c.in_ok-after.after.now next.after some
+loop-after-smaller c = next_shorter c.loop-after.rest.now _ c.in-Some.words.now (sym c.in-Some.ensures.cases.0 ∙ c.in_ok-after.ensures.after)
 
 pub loop-after-preserved : goal.loop-after-preserved
-loop-after-preserved c =
-    let next = c.in_ok-after.ensures in
-    let some : 1 ≤ length c.in_ok-after.after.now = omega (arith, false-eqb _ 0 c.if-is_empty.ensures) in
-    next_words c.args.line.bytes.now c.loop-after.rest.now (told c.in_ok-after.field-0-0).word c.in_ok-after.after.now (sym c.if-not-is_clean.ensures) c.loop-after.invariant next.word next.after some
+loop-after-preserved c = next_words c.args.line.bytes.now c.loop-after.rest.now (told c.in_ok-after.field-0-0).word _ c.in-Some.words.now (sym c.if-not-is_clean.ensures) c.loop-after.invariant c.in_ok-after.ensures.word (sym c.in-Some.ensures.cases.0 ∙ c.in_ok-after.ensures.after)
