@@ -1,10 +1,8 @@
 // From a line to its row.
-ghost use Rattle.std.specs.Prelude.{◌≡◌, ◌+◌, ltb, length, if◌then◌else◌, Some, None, MatchOption, nat_eq, slice_set};
+ghost use Rattle.std.specs.Prelude.{◌≡◌, length, if◌then◌else◌, Some, None, MatchOption, nat_eq};
 ghost use Rattle.lines.specs.declared.row.Kind.TheVariants.{Cycle, At, Irq, Task};
-ghost use Rattle.words.specs.Numbers.{value_of};
-ghost use Rattle.words.specs.Split.{before, onward, pieces};
-ghost use Rattle.words.specs.Tokens.{told};
-ghost use Rattle.lines.specs.Numbers.{word_value, front, behind, numbers_after};
+ghost use Rattle.words.specs.Split.{pieces};
+ghost use Rattle.lines.specs.Numbers.{front, behind, numbers_after};
 ghost use Rattle.lines.specs.Rows.{kind_of, said, said_by, costs_said, row_said, read_line, LineRule, row_told};
 
 use crate::row::{Costs, Kind, Row};

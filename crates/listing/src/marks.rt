@@ -1,10 +1,11 @@
 // What a listing tells.
-ghost use Rattle.std.specs.Prelude.{◌≡◌, ◌+◌, ◌^◌, ◌<◌, ◌≤◌, true, false, length, replicate, take, nat_lt, slice_index_or, slice_set};
+ghost use Rattle.std.specs.Prelude.{◌≡◌, ◌+◌, ◌^◌, ◌<◌, ◌≤◌, true, false, length, replicate, take, nat_lt, slice_set};
 ghost use Rattle.listing.specs.Texts.{unmarked};
 
 use refusal::Refusal;
 
-// One item more behind the first ones of a table, or false if it is full.
+// One item more behind the first ones of a table, or false if it is full: that is the only way to fail, so an error would say no
+// more than the `bool`.
 fn push<T: Copy>(table: &mut [T], count: &mut u32, item: T) -> bool
     requires { length table.old < 2 ^ 32 }
     ensures answer { result ≡ nat_lt count.old (length table.old) }
@@ -29,7 +30,7 @@ pub struct TaskMark {
 }
 
 // The loads of up to 9 parts, and what is told of up to 16 tasks, in the order in which they were added.
-// Tables with a count beside them, and no `Vec`: the library allocates nothing here, and a listing is copied.
+// The project wants fixed memory here, and no heap: so a table has a count beside it and is no `Vec`, and marks are copied.
 #[derive(Clone, Copy)]
 pub struct Marks {
     pub(crate) parts: [u64; 9],
