@@ -36,6 +36,7 @@ impl<'a> Reader<'a> {
         ensures { MatchOption result (front self.old.rest.now ≡ None) (λ n. (front self.old.rest.now ≡ Some n) × (self.new.rest.now ≡ behind self.old.rest.now)) }
     {
         let (_, words) = self.rest.split_first()?;
+        // an `else`, since one pattern asks for a word and for a number at once
         let Ok((Token::Number { value, .. }, rest)) = next_token(self.line, words) else {
             return None;
         };
@@ -113,7 +114,8 @@ impl<'a> Reader<'a> {
         })
     }
 
-    // The row of a keyword, from the part of the line after it.
+    // The row of a keyword, from the part of the line after it. A match, and no table of closures: it shows that no keyword is left
+    // out.
     fn row(&mut self, kind: Kind) -> Option<Row>
         ensures { result ≡ row_said (said (Some kind) (numbers_after self.old.rest.now)) }
     {
@@ -136,10 +138,18 @@ fn said_by(line: Line) -> Option<Row>
 }
 
 // What a line says, or what is wrong with it: a byte or a word that is none, and only then that it is no line.
+#[tactic(auto, using(crate::proofs::Ruling::told_row))]
+fn row_or_fault(line: Line) -> Result<Row, Fault>
+    ensures { result ≡ row_told (read_line line.entry.bytes.now) }
+{
+    check_line(line)?;
+    said_by(line).ok_or(Fault::BadLine)
+}
+
+// What a line says, or what is wrong with it, with the rule that a line says just what spells it.
 pub fn row_of(line: Line) -> Result<Row, Fault>
     ensures row { result ≡ row_told (read_line line.entry.bytes.now) }
     ensures rule { LineRule line.entry.bytes.now }
 {
-    check_line(line)?;
-    said_by(line).ok_or(Fault::BadLine)
+    row_or_fault(line)
 }

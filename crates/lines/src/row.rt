@@ -14,8 +14,8 @@ pub enum Kind {
 // How many costs are kept of a line: one more than any part may have, so that too many are seen to be too many.
 pub const KEPT: usize = 9;
 
-// The first nine costs of a line, with 0 after the last. A table with a count beside it, and no `Vec`: the library allocates
-// nothing here, and a row is copied.
+// The first nine costs of a line, with 0 after the last. The project wants fixed memory here, and no heap: so the table has a count
+// beside it and is no `Vec`, and a row is copied.
 #[derive(Clone, Copy)]
 pub struct Costs {
     pub numbers: [u32; 9],
@@ -73,6 +73,6 @@ impl Costs {
         ensures { result.now ≡ take (min 9 self.now.count) self.now.numbers }
     {
         let count = self.count.min(KEPT);
-        &self.numbers[0..count]
+        &self.numbers[..count]
     }
 }
