@@ -1,18 +1,21 @@
 // What is told of a sheet: loads, bounds and deadlines, or a refusal.
-ghost use Rattle.std.specs.Prelude.{◌≡◌, ℕ, ◌+◌, ◌-◌, ◌<◌, List, length, MatchResult, slice_index};
+ghost use Rattle.std.specs.Prelude.{◌≡◌, ℕ, ◌+◌, ◌-◌, ◌<◌, List, Ok, Err, MatchResult, slice_index};
 ghost use Rattle.paced.specs.Loads.{row_load};
 ghost use Rattle.paced.specs.Tables.{row_at};
+ghost use Rattle.plan.specs.Judged.{outcome_of};
 ghost use Rattle.plan.specs.Limits.{limit_at};
 ghost use Rattle.plan.specs.declared.verdict.Verdict.{Verdict};
 ghost use Rattle.listing.specs.Listings.{marks_text, listing_text};
 ghost use Rattle.listing.specs.Texts.{unmarked};
 ghost use Rattle.sheet.specs.Marking.{JudgedPlan, Answered, part_load, accepted_plan, Listed};
+ghost use Rattle.sheet.specs.Reading.{on_line};
 ghost use Rattle.sheet.specs.Views.{view};
 
 use crate::draft::Draft;
 use crate::reading::{Finished, read};
 use listing::{Listing, Marks, TaskMark};
 use plan::stages::OpenPlan;
+use plan::verdict::Verdict;
 use refusal::Refusal;
 use source::Source;
 use source::pair::Pair;
@@ -25,6 +28,15 @@ fn line_of(finished: &Finished, task: u32) -> u32
     finished.lines.saturating_sub(below)
 }
 
+// What a verdict comes to, with the line of the task on a refusal.
+fn outcome_on_line(finished: &Finished, verdict: Verdict) -> Result<u32, Refusal>
+    ensures { MatchResult (outcome_of verdict) (λ n. result ≡ Ok n) (λ e. result ≡ Err (on_line (finished.now.lines - (finished.now.draft.tasks.parts.count - e.task)) e)) }
+{
+    verdict
+        .outcome()
+        .map_err(|refusal| refusal.on_line(line_of(finished, refusal.task)))
+}
+
 // The bounds of the tasks by the judge, or its refusal with the line of the task.
 fn judged(finished: &Finished) -> Result<[u32; 16], Refusal>
     ensures { (v : Verdict) × (bounds : List ℕ) × JudgedPlan (view finished.now.draft) v bounds × Answered (record { plan = view finished.now.draft; lines = finished.now.lines }) v bounds result }
@@ -32,10 +44,7 @@ fn judged(finished: &Finished) -> Result<[u32; 16], Refusal>
     let draft = finished.draft;
     let bank = Pair::new(draft.rack, draft.schedule);
     let judged = OpenPlan::with_tasks(bank, draft.tasks).judge();
-    // No `map_err` and `?`: after them the proof no longer ties the refusal to the judge's outcome.
-    if let Err(refusal) = judged.verdict().outcome() {
-        return Err(refusal.on_line(line_of(finished, refusal.task)));
-    }
+    outcome_on_line(finished, judged.verdict())?;
     let mut bounds = [0; 16];
     let _ = judged.bounds(&mut bounds);
     Ok(bounds)
