@@ -72,7 +72,8 @@ impl Draft {
         })
     }
 
-    // What a later row makes of the draft: pairs come before interrupts, and these before tasks.
+    // What a later row makes of the draft: pairs come before interrupts, and these before tasks. A match, and no table of closures:
+    // each kind of row has numbers of its own.
     pub(crate) fn go_on(&mut self, row: &Row) -> Result<(), Refusal>
         ensures { MatchResult result (λ _. gone_on (view self.old) row.now ≡ Ok (view self.new)) (λ e. gone_on (view self.old) row.now ≡ Err e) }
     {

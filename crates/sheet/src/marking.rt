@@ -6,7 +6,6 @@ ghost use Rattle.plan.specs.Judged.{outcome_of};
 ghost use Rattle.plan.specs.Limits.{limit_at};
 ghost use Rattle.plan.specs.declared.verdict.Verdict.{Verdict};
 ghost use Rattle.listing.specs.Listings.{marks_text, listing_text};
-ghost use Rattle.listing.specs.Texts.{unmarked};
 ghost use Rattle.sheet.specs.Marking.{JudgedPlan, Answered, part_load, accepted_plan, Listed};
 ghost use Rattle.sheet.specs.Reading.{on_line};
 ghost use Rattle.sheet.specs.Views.{view};

@@ -1,8 +1,10 @@
 // From bytes to a draft, line after line.
-ghost use Rattle.std.specs.Prelude.{◌≡◌, ◌+◌, ◌<◌, ◌≤◌, length, Some, None, Ok, Err, MatchResult};
-ghost use Rattle.words.specs.Split.{pieces};
+ghost use Rattle.std.specs.Prelude.{◌≡◌, ◌+◌, ◌<◌, ◌≤◌, [], ◌∷◌, length, Some, None, Ok, Err, MatchResult};
+ghost use Rattle.refusal.specs.declared.Fault.TheVariants.{ForeignByte};
+ghost use Rattle.words.specs.Split.{before, onward, pieces};
 ghost use Rattle.lines.specs.Rows.{read_line, row_told};
-ghost use Rattle.sheet.specs.Reading.{step, read_on, read as reading};
+ghost use Rattle.sheet.specs.Drafts.{plain};
+ghost use Rattle.sheet.specs.Reading.{on_line, step, read_on, read as reading};
 ghost use Rattle.sheet.specs.Rowing.{next_row};
 ghost use Rattle.sheet.specs.Views.{view};
 
@@ -47,18 +49,25 @@ fn step(draft: &mut Draft, line: Line) -> Result<(), Refusal>
     next(draft, line).map_err(|refusal| refusal.on_line(line.number))
 }
 
+// The line with that number, with which the rest of a sheet begins, and what follows it; or the refusal of a line that does not
+// end.
+fn cut_line(rest: &[u8], number: u32) -> Result<(&[u8], &[u8]), Refusal>
+    ensures { MatchResult result (λ p. (p.0.now ≡ before 10 rest.now) × ((10 ∷ p.1.now) ≡ onward 10 rest.now) × (length p.1.now < length rest.now)) (λ e. (onward 10 rest.now ≡ []) × (e ≡ on_line number (plain ForeignByte))) }
+{
+    first_line(rest).ok_or(Refusal::new(Fault::ForeignByte, number, 0))
+}
+
 // Reads the lines after the first into the draft, up to the first fault, and says how many lines the sheet has.
 fn read_on(draft: &mut Draft, sheet: &[u8]) -> Result<u32, Refusal>
     requires { length sheet.now ≤ 16384 }
     ensures { MatchResult result (λ n. read_on 1 (Some (view draft.old)) (pieces 10 sheet.now) ≡ Ok (record { plan = view draft.new; lines = n })) (λ e. read_on 1 (Some (view draft.old)) (pieces 10 sheet.now) ≡ Err e) }
 {
+    // counted by hand: lines come off the rest one by one, and no iterator gives them with their numbers
     let mut lines = 1;
     let mut rest = sheet;
     while !rest.is_empty() {
         let number = lines + 1;
-        let Some((bytes, after)) = first_line(rest) else {
-            return Err(Refusal::new(Fault::ForeignByte, number, 0));
-        };
+        let (bytes, after) = cut_line(rest, number)?;
         step(draft, Line { bytes, number })?;
         lines = number;
         rest = after;
@@ -83,9 +92,7 @@ pub(crate) fn read(sheet: &[u8]) -> Result<Finished, Refusal>
     if sheet.is_empty() {
         return Err(Refusal::new(Fault::BadLine, 1, 0));
     }
-    let Some((bytes, rest)) = first_line(sheet) else {
-        return Err(Refusal::new(Fault::ForeignByte, 1, 0));
-    };
+    let (bytes, rest) = cut_line(sheet, 1)?;
     let mut draft = begun(Line { bytes, number: 1 })?;
     let lines = read_on(&mut draft, rest)?;
     Ok(Finished { draft, lines })

@@ -6,37 +6,38 @@ use Rattle.sheet.specs.Reading.{and_then, read_on}
 use Rattle.sheet.proofs.Lining.{short_enough, line_first, line_open}
 use Rattle.sheet.proofs.reading.read.Goals as goal
 
-pub returns-in_default : goal.returns-in_default
-returns-in_default c =
+pub returns-in_err-bytes : goal.returns-in_err-bytes
+returns-in_err-bytes c =
     let sheet = c.args.sheet.now in
     let more : 1 ≤ length sheet = omega (arith, eqb-false (length sheet) 0 (sym c.if-is_empty.ensures)) in
-    short_enough sheet c.if-sheet-gt-LONGEST_SHEET.false
-    ∙ line_open 0 None sheet more c.in_default.ensures
-    ∙ (λ i. Err (record { fault = sym c.new-in_default.ensures.fault i; line = sym c.new-in_default.ensures.line i; task = sym c.new-in_default.ensures.task i }))
+    let open_line = c.in_err-bytes.ensures in
+    let p = err_from_is_err_and c.from_residual.result c.from_residual.ensures.1 in
+    rw (p.1, p.2)
+    (short_enough sheet c.if-sheet-gt-LONGEST_SHEET.false ∙ line_open 0 None sheet more open_line.0 ∙ ap Err (sym open_line.1))
 
 pub returns-in_err-draft : goal.returns-in_err-draft
 returns-in_err-draft c =
     let sheet = c.args.sheet.now in
-    let rest = c.in-Some.rest.now in
-    let line = c.in-Some.ensures in
-    let p = err_from_is_err_and c.from_residual.result c.from_residual.ensures.1 in
+    let rest = c.in_ok-bytes.rest.now in
+    let line = c.in_ok-bytes.ensures in
+    let p = err_from_is_err_and c.from_residual-in_err-draft.result c.from_residual-in_err-draft.ensures.1 in
     rw (p.1, p.2)
     (
     short_enough sheet c.if-sheet-gt-LONGEST_SHEET.false
-    ∙ line_first 0 None sheet c.in-Some.bytes.now rest line.0 line.1
+    ∙ line_first 0 None sheet c.in_ok-bytes.bytes.now rest line.0 line.1
     ∙ ap (λ r. and_then r (λ q. read_on 1 (Some q) (pieces 10 rest))) c.in_err-draft.ensures
     )
 
 pub returns-in_err-lines : goal.returns-in_err-lines
 returns-in_err-lines c =
     let sheet = c.args.sheet.now in
-    let rest = c.in-Some.rest.now in
-    let line = c.in-Some.ensures in
+    let rest = c.in_ok-bytes.rest.now in
+    let line = c.in_ok-bytes.ensures in
     let p = err_from_is_err_and c.from_residual-in_err-lines.result c.from_residual-in_err-lines.ensures.1 in
     rw (p.1, p.2)
     (
     short_enough sheet c.if-sheet-gt-LONGEST_SHEET.false
-    ∙ line_first 0 None sheet c.in-Some.bytes.now rest line.0 line.1
+    ∙ line_first 0 None sheet c.in_ok-bytes.bytes.now rest line.0 line.1
     ∙ ap (λ r. and_then r (λ q. read_on 1 (Some q) (pieces 10 rest))) c.in_ok-draft.ensures
     ∙ c.in_err-lines.ensures
     )
@@ -44,9 +45,9 @@ returns-in_err-lines c =
 pub returns : goal.returns
 returns c =
     let sheet = c.args.sheet.now in
-    let rest = c.in-Some.rest.now in
-    let line = c.in-Some.ensures in
+    let rest = c.in_ok-bytes.rest.now in
+    let line = c.in_ok-bytes.ensures in
     short_enough sheet c.if-sheet-gt-LONGEST_SHEET.false
-    ∙ line_first 0 None sheet c.in-Some.bytes.now rest line.0 line.1
+    ∙ line_first 0 None sheet c.in_ok-bytes.bytes.now rest line.0 line.1
     ∙ ap (λ r. and_then r (λ q. read_on 1 (Some q) (pieces 10 rest))) c.in_ok-draft.ensures
     ∙ c.in_ok-lines.ensures

@@ -7,36 +7,37 @@ use Rattle.sheet.specs.Views.{view}
 use Rattle.sheet.proofs.Lining.{line_first, line_open}
 use Rattle.sheet.proofs.reading.read_on.Goals as goal
 
-pub returns-in_default : goal.returns-in_default
-returns-in_default c =
+pub returns-in_err-bytes : goal.returns-in_err-bytes
+returns-in_err-bytes c =
     let rest = c.loop-rest.rest.now in
     let so_far = Some (view c.loop-rest.draft) in
     let more : 1 ≤ length rest = omega (arith, eqb-false (length rest) 0 (sym c.loop-rest-test.ensures)) in
-    sym c.loop-rest.invariant.1
-    ∙ line_open c.loop-rest.lines so_far rest more c.in_default.ensures
-    ∙ (λ i. Err (record { fault = sym c.new.ensures.fault i; line = sym c.new.ensures.line i; task = sym c.new.ensures.task i }))
+    let open_line = c.in_err-bytes.ensures in
+    let p = err_from_is_err_and c.from_residual.result c.from_residual.ensures.1 in
+    rw (p.1, p.2)
+    (sym c.loop-rest.invariant.1 ∙ line_open c.loop-rest.lines so_far rest more open_line.0 ∙ ap Err (sym open_line.1))
 
 pub returns-in_err-step : goal.returns-in_err-step
 returns-in_err-step c =
     let rest = c.loop-rest.rest.now in
-    let after = c.in-Some.after.now in
+    let after = c.in_ok-bytes.after.now in
     let so_far = Some (view c.loop-rest.draft) in
-    let line = c.in-Some.ensures in
-    let p = err_from_is_err_and c.from_residual.result c.from_residual.ensures.1 in
+    let line = c.in_ok-bytes.ensures in
+    let p = err_from_is_err_and c.from_residual-in_err-step.result c.from_residual-in_err-step.ensures.1 in
     rw (p.1, p.2)
     (
     sym c.loop-rest.invariant.1
-    ∙ line_first c.loop-rest.lines so_far rest c.in-Some.bytes.now after line.0 line.1
+    ∙ line_first c.loop-rest.lines so_far rest c.in_ok-bytes.bytes.now after line.0 line.1
     ∙ ap (λ r. and_then r (λ q. read_on (c.loop-rest.lines + 1) (Some q) (pieces 10 after))) c.in_err-step.ensures
     )
 
 pub loop-rest-preserved : goal.loop-rest-preserved
 loop-rest-preserved c =
     let rest = c.loop-rest.rest.now in
-    let after = c.in-Some.after.now in
-    let line = c.in-Some.ensures in (
+    let after = c.in_ok-bytes.after.now in
+    let line = c.in_ok-bytes.ensures in (
       omega (arith, line.2, c.loop-rest.invariant.0),
       sym (ap (λ r. and_then r (λ q. read_on (c.loop-rest.lines + 1) (Some q) (pieces 10 after))) c.in_ok-step.ensures)
-          ∙ sym (line_first c.loop-rest.lines (Some (view c.loop-rest.draft)) rest c.in-Some.bytes.now after line.0 line.1)
+          ∙ sym (line_first c.loop-rest.lines (Some (view c.loop-rest.draft)) rest c.in_ok-bytes.bytes.now after line.0 line.1)
           ∙ c.loop-rest.invariant.1,
     )
