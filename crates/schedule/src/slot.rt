@@ -1,7 +1,7 @@
 // Pairs of offset and length, and the largest sum of lengths in a window shorter than the cycle.
-ghost use Rattle.std.specs.Prelude.{◌≡◌, ℕ, ◌+◌, ◌-◌, ◌*◌, ◌<◌, ◌≤◌, length, max};
+ghost use Rattle.std.specs.Prelude.{◌≡◌, ℕ, ◌+◌, ◌-◌, ◌<◌, ◌≤◌, length, max};
 ghost use Rattle.cycles.specs.Round.{sum, top};
-ghost use Rattle.schedule.specs.Phases.{offset_of, length_of, length_at, lengths_met, if_at};
+ghost use Rattle.schedule.specs.Phases.{offset_of, length_of, length_at, lengths_met};
 ghost use Rattle.schedule.specs.Twice.{offset_twice, units_twice};
 
 // A pair: from `offset` on in each cycle, work of `length` units.

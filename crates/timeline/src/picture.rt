@@ -1,6 +1,6 @@
 // The lines of a timeline.
 ghost use Rattle.std.specs.Prelude.{◌≡◌, ◌++◌, IfOk, OnOk};
-ghost use Rattle.timeline.specs.Pictures.{line, ruler_line, part_line, task_line, timeline};
+ghost use Rattle.timeline.specs.Pictures.{line, timeline};
 
 use crate::log::Log;
 use crate::rows::{part_row, ruler, task_row};

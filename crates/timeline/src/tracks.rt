@@ -21,7 +21,7 @@ pub(crate) trait Track: Drop {
     fn mark(&self, got: Got) -> u8
         ensures { (start : Self) (log : List Event) → Went start log self.now → result ≡ cell start log got };
 
-    // Takes a call with its answer: two values, as the zip gives them, since each match wants both apart.
+    // Takes a call and the answer to it: two values, as they come from the two lists of a log.
     fn pass(&mut self, call: Call, answer: Answer)
         requires { (start : Self) × (log : List Event) × Went start log self.old × (length log < 2 ^ 63) }
         ensures { (start : Self) (log : List Event) → Went start log self.old → Went start (log ++ (record { call = call; answer = answer } ∷ [])) self.new };

@@ -1,5 +1,5 @@
 // From a line to its call.
-ghost use Rattle.std.specs.Prelude.{◌≡◌, length, if◌then◌else◌, Some, None, MatchOption, nat_eq};
+ghost use Rattle.std.specs.Prelude.{◌≡◌, Some, None, MatchOption};
 ghost use Rattle.lines.specs.Numbers.{front, behind, numbers_after};
 ghost use Rattle.transcript.specs.Calls.{verb_of, one, two, call_with, read_call, CallRule};
 
@@ -60,7 +60,8 @@ fn two_numbers(rest: &[u8]) -> Option<(u32, u64)>
     rest.is_empty().then_some((first, u64::from(second)))
 }
 
-// The call of a keyword, from the part of the line after it.
+// The call of a keyword, from the part of the line after it. A match, and no table of closures: the keywords take one number, two
+// or none.
 fn call_with(verb: Verb, rest: &[u8]) -> Option<Call>
     ensures { result ≡ call_with (Some verb) (numbers_after rest.now) }
 {
