@@ -70,8 +70,8 @@ fn drive<G: Gate>(rt: &impl Abort, bank: &mut G, cases: &[Case]) {
 
 // The demand of a part over each window.
 fn ask<S: Source>(rt: &impl Abort, bank: &S, part: u32, table: &[(u32, Option<u64>)]) {
-    for row in table {
-        assert_eq!(rt; bank.demand(part, row.0), row.1, "window {}", row.0);
+    for &(ticks, demand) in table {
+        assert_eq!(rt; bank.demand(part, ticks), demand, "window {ticks}");
     }
 }
 
@@ -192,10 +192,7 @@ fn all_is_offered(rt: HostRuntime) {
 
 // A source of that many parts.
 fn even_parts(parts: u32) -> Result<Even, Fail> {
-    match Even::new(parts) {
-        Some(bank) => Ok(bank),
-        None => Err(Fail::new("no source")),
-    }
+    Even::new(parts).ok_or_else(|| Fail::new("no source"))
 }
 
 #[test]
@@ -271,9 +268,7 @@ fn schedule_of(cycle: u32, first: u32, offset: u32, second: u32) -> Result<Sched
 
 #[test]
 fn schedule_windows(rt: HostRuntime) -> Result<(), Fail> {
-    let Ok(schedule) = schedule_of(12, 3, 5, 2) else {
-        return Err(Fail::new("no schedule"));
-    };
+    let schedule = schedule_of(12, 3, 5, 2)?;
     let ends = [
         (0, Some(0)),
         (5, Some(3)),
@@ -285,18 +280,14 @@ fn schedule_windows(rt: HostRuntime) -> Result<(), Fail> {
     ];
     ask(&rt, &schedule, 1, &ends);
     ask(&rt, &schedule, 2, &[(5, None)]);
-    let Ok(schedule) = schedule_of(12, 3, 10, 2) else {
-        return Err(Fail::new("no schedule"));
-    };
+    let schedule = schedule_of(12, 3, 10, 2)?;
     ask(&rt, &schedule, 1, &[(2, Some(3)), (3, Some(5))]);
     Ok(())
 }
 
 #[test]
 fn one_schedule(rt: HostRuntime) -> Result<(), Fail> {
-    let Ok(mut schedule) = schedule_of(12, 3, 5, 2) else {
-        return Err(Fail::new("no schedule"));
-    };
+    let mut schedule = schedule_of(12, 3, 5, 2)?;
     let cases = [
         offering(0, 1, 4, false, [3, NO, NO, NO]),
         offering(0, 1, 3, true, [0, NO, NO, NO]),
@@ -384,14 +375,10 @@ fn schedule_makers(rt: HostRuntime) -> Result<(), Fail> {
         (11, 1_000_000, 0),
     ];
     for (offset, length, fault) in pairs {
-        let Ok(mut schedule) = schedule_of(12, 3, 5, 2) else {
-            return Err(Fail::new("no schedule"));
-        };
+        let mut schedule = schedule_of(12, 3, 5, 2)?;
         assert_eq!(rt; number(schedule.add(offset, length)), fault);
     }
-    let Ok(mut schedule) = Schedule::new(100) else {
-        return Err(Fail::new("no schedule"));
-    };
+    let mut schedule = Schedule::new(100)?;
     for offset in 0..64 {
         assert_eq!(rt; number(schedule.add(offset, 1)), 0);
     }

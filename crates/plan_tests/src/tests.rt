@@ -28,8 +28,8 @@ fn limit(blocking: u32, deadline: u32, hold: u32) -> Limit {
 // A schedule with these pairs of offset and length.
 fn schedule(cycle: u32, pairs: &[(u32, u32)]) -> Result<Schedule, Refusal> {
     let mut made = Schedule::new(cycle)?;
-    for pair in pairs {
-        made.add(pair.0, pair.1)?;
+    for &(offset, length) in pairs {
+        made.add(offset, length)?;
     }
     Ok(made)
 }
@@ -57,9 +57,7 @@ fn construction_machine(rt: HostRuntime) -> Result<(), Fail> {
         (80, 4),
         (90, 2),
     ];
-    let Ok(bank) = schedule(100, &pairs) else {
-        return Err(Fail::new("no schedule"));
-    };
+    let bank = schedule(100, &pairs)?;
     let mut plan = OpenPlan::new(bank);
     for (deadline, cost) in [(100, 7), (100, 8), (2000, 8)] {
         assert_eq!(rt;
@@ -173,9 +171,7 @@ fn parts_of_a_bank(rt: HostRuntime) -> Result<(), Fail> {
         verdict_over(Pair::new(rack(8), rack(8))),
         Verdict::Accepted(1)
     );
-    let Ok(one) = schedule(10, &[]) else {
-        return Err(Fail::new("no schedule"));
-    };
+    let one = schedule(10, &[])?;
     assert_eq!(rt;
         verdict_over(Pair::new(Pair::new(rack(8), rack(8)), one)),
         Verdict::NotJudgeable
