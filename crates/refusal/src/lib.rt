@@ -108,7 +108,7 @@ impl Fault {
 pub fn first_fault(a: Option<Fault>, b: Option<Fault>) -> Option<Fault>
     ensures { result ≡ first_of a b }
 {
-    // `min_by_key` would say the same, with a proof of what its closure answers
+    // three arms, and no `min_by_key` over both: of that one has to know which of two equal numbers it takes
     match (a, b) {
         (Some(f), Some(g)) if f.number() > g.number() => Some(g),
         (Some(f), _) => Some(f),
