@@ -20,13 +20,17 @@ named fault task = (told fault 0 task).task
 abbrev pub tick_fault : Option ℕ → Option Fault
 tick_fault parts = cond (is_some parts) None (Some NotAccepted)
 
+-- what is wrong with a number that has to be from 1 to n: that fault, if it is not
+abbrev pub range_fault : Fault → ℕ → ℕ → Option Fault
+range_fault fault n k = cond (is_part n k) None (Some fault)
+
 -- what is wrong with number k of n parts or tasks
 abbrev pub number_fault : ℕ → ℕ → Option Fault
-number_fault n k = cond (is_part n k) None (Some NoSuchNumber)
+number_fault n k = range_fault NoSuchNumber n k
 
 -- what is wrong with u units of a part or task that may bring `most` in this tick
 abbrev pub units_fault : ℕ → ℕ → Option Fault
-units_fault most u = cond (nat_le 1 u && nat_le u most) None (Some UnitsNotAllowed)
+units_fault most u = range_fault UnitsNotAllowed most u
 
 -- what is wrong with task i of n
 abbrev pub task_fault : Option ℕ → ℕ → ℕ → Option Fault

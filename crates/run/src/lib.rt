@@ -1,13 +1,13 @@
 // A run of a judged plan: its calls, what each answers and changes, and when it is refused.
 #![tactic(auto)]
 
-ghost use Rattle.std.specs.Prelude.{◌≡◌, ℕ, ◌+◌, ◌<◌, ◌≤◌, min, true, false, length, if◌then◌else◌, Some, None, IfOk, IfErr, MatchResult, unwrap_or};
+ghost use Rattle.std.specs.Prelude.{◌≡◌, ℕ, ◌+◌, ◌<◌, ◌≤◌, min, true, false, length, if◌then◌else◌, Some, None, IfOk, IfErr, MatchResult, is_some, unwrap_or};
 ghost use Rattle.std.specs.List.{sum};
 ghost use Rattle.std.specs.Option.{ForSome};
 ghost use Rattle.source.specs.Facts.{Kept, Taken, Ticked};
 ghost use Rattle.paced.specs.Tables.{row_at, demands_of, allowances_of, Gives, Passes};
 ghost use Rattle.plan.specs.Limits.{limit_at};
-ghost use Rattle.run.specs.Faults.{named, number_fault, units_fault, task_fault, offer_fault, release_fault, grantable, hold_fault, let_go_fault, end_fault, tick_fault};
+ghost use Rattle.run.specs.Faults.{named, range_fault, number_fault, units_fault, task_fault, offer_fault, release_fault, grantable, hold_fault, let_go_fault, end_fault, tick_fault};
 ghost use Rattle.run.specs.States.{at_start, is_accepted, Known, Lasting};
 ghost use Rattle.run.specs.Steps.{grown, released, granted, let_go, ended, due, passed};
 
@@ -59,22 +59,12 @@ fn is_accepted(verdict: Verdict) -> bool
     matches!(verdict, Verdict::Accepted(_))
 }
 
-// Looks for what is wrong with a number, of some parts or tasks.
-fn check_number(number: u32, count: u32) -> Result<(), Fault>
-    ensures { MatchResult result (λ _. number_fault count number ≡ None) (λ fault. number_fault count number ≡ Some fault) }
+// Looks for what is wrong with a number that has to be from 1 to the most: that fault, if it is not.
+fn check_range(number: u64, most: u64, fault: Fault) -> Result<(), Fault>
+    ensures { MatchResult result (λ _. range_fault fault most number ≡ None) (λ found. range_fault fault most number ≡ Some found) }
 {
-    if !(1..=count).contains(&number) {
-        return Err(Fault::NoSuchNumber);
-    }
-    Ok(())
-}
-
-// Looks for what is wrong with units, of a part or task that may bring so many in this tick.
-fn check_units(units: u64, most: u64) -> Result<(), Fault>
-    ensures { MatchResult result (λ _. units_fault most units ≡ None) (λ fault. units_fault most units ≡ Some fault) }
-{
-    if !(1..=most).contains(&units) {
-        return Err(Fault::UnitsNotAllowed);
+    if !(1..=most).contains(&number) {
+        return Err(fault);
     }
     Ok(())
 }
@@ -87,6 +77,7 @@ impl<G: Source> Run<G> {
         ensures table { result.table ≡ judged.tasks.parts }
         ensures at_rest { (i : ℕ) → i < result.table.count → ((row_at result.table.rows i).level ≡ 0) × ((row_at result.table.rows i).place ≡ 0) }
         ensures limits { result.terms.limits ≡ judged.tasks.limits }
+        ensures accepted { is_some result.terms.parts ≡ is_accepted judged.verdict }
         ensures parts { result.terms.parts ≡ (if is_accepted judged.verdict then Some (min (G.Source.parts judged.bank) 16) else None) }
         ensures bounds { result.terms.bounds ≡ judged.bounds }
         ensures state { result.state ≡ at_start }
@@ -120,9 +111,9 @@ impl<G: Source> Run<G> {
     fn check_offer(&self, part: u32, units: u64) -> Result<(), Fault>
         ensures { MatchResult result (λ _. offer_fault self.now.terms.parts (G.Source.allowed self.now.bank part 1) self.now.state.backlogs part units ≡ None) (λ fault. offer_fault self.now.terms.parts (G.Source.allowed self.now.bank part 1) self.now.state.backlogs part units ≡ Some fault) }
     {
-        check_number(part, self.parts()?)?;
+        check_range(part.into(), self.parts()?.into(), Fault::NoSuchNumber)?;
         let most = self.bank.allowance(part).unwrap_or(0);
-        check_units(units, most)?;
+        check_range(units, most, Fault::UnitsNotAllowed)?;
         if units > MOST_BACKLOG - self.state.waiting() {
             return Err(Fault::BacklogFull);
         }
@@ -134,7 +125,7 @@ impl<G: Source> Run<G> {
         ensures { MatchResult result (λ _. task_fault self.now.terms.parts self.now.table.count task ≡ None) (λ fault. task_fault self.now.terms.parts self.now.table.count task ≡ Some fault) }
     {
         self.parts()?;
-        check_number(task, self.table.count())
+        check_range(task.into(), self.table.count().into(), Fault::NoSuchNumber)
     }
 
     // Looks for what is wrong with a release.
@@ -143,7 +134,7 @@ impl<G: Source> Run<G> {
     {
         self.check_task(task)?;
         let most = self.table.allowance(task).unwrap_or(0);
-        check_units(units, most)?;
+        check_range(units, most, Fault::UnitsNotAllowed)?;
         if self.state.left_of(task) > 0 {
             return Err(Fault::JobPending);
         }
@@ -201,6 +192,8 @@ impl<G: Source> Run<G> {
     }
 }
 
+// What a refusal leaves, and what a call does not change, each call says by itself: no type can say it of both ends of a call.
+// A number and its units are two values, as a call has them.
 impl<G: Gate> Run<G> {
     // Offers units to a part of the bank. Refused are, the first that applies: a run of a plan that is not accepted; a
     // number that is no part; units outside 1 to what the part may bring in this tick; backlogs above 1,000,000 units in

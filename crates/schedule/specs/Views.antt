@@ -1,14 +1,14 @@
 -- A schedule owes what a source and a gate owe.
 -- Lemmas only, which laws of traits cite; a reader of the definitions can pass over them.
-use Rattle.std.specs.Prelude.{◌≡◌, ℕ, zero, suc, ◌+◌, ◌*◌, ◌/◌, ◌%◌, ◌<◌, ◌≤◌, cond, List, length, take, ◌==◌, slice_index_or}
-use Rattle.std.proofs.Common.{sym, ap, ◌∙◌, subst, arith, add-one}
+use Rattle.std.specs.Prelude.{◌≡◌, ℕ, zero, suc, ◌+◌, ◌*◌, ◌/◌, ◌%◌, ◌<◌, ◌≤◌, true, cond, List, length, take, ◌==◌, slice_index_or}
+use Rattle.std.proofs.Common.{sym, ap, ◌∙◌, subst, arith, add-one, inl, inr}
 use Rattle.std.proofs.Math.Path.{fun_ext}
-use Rattle.std.proofs.lemmas.Bool.{cond_both}
-use Rattle.std.proofs.lemmas.List.{length-take-le, get_or-take}
+use Rattle.std.proofs.lemmas.Bool.{cond_both, cases_lt}
+use Rattle.std.proofs.lemmas.List.{length-take-le, get_or-take, get_or_past}
 use Rattle.cycles.specs.Round.{sum, top, met}
 use Rattle.cycles.proofs.Rounds.{top_at, top_least, top_rises, top_split, met_rises, met_least, met_first, sum_same}
-use Rattle.source.specs.Facts.{single, Sound, Kept, Taken, Ticked}
-use Rattle.source.proofs.Parts.{single_at, single_sound, single_kept, single_taken, single_ticked, offerable_parts}
+use Rattle.source.specs.Facts.{single, offerable, Sound, Kept, Taken, Ticked}
+use Rattle.source.proofs.Parts.{single_at, single_sound, single_kept, single_taken, single_ticked, offerable_parts, offerable_from, part_from}
 use Rattle.schedule.specs.Phases.{none, offset_of, length_of, if_at, length_at, lengths_met, View, demand, allowance, offered, later, Gives}
 use Rattle.schedule.specs.declared.slot.Slot.{Slot}
 use Rattle.schedule.specs.Windows.{whole_is, at_phase_small}
@@ -81,6 +81,9 @@ view_ticked v w e = (single_kept (demand v) (demand w) (ap demand e), single_tic
     shorter zero = omega arith
     shorter (suc l) = subst (λ k. allowance (later v) (suc l) ≤ allowance v k) (sym (add-one (suc l))) (omega arith)
 
+pub view_offered : (v : View) (k u : ℕ) → k ≡ 1 → 1 ≤ u → u ≤ allowance v 1 → offerable 1 (single (allowance v)) k u ≡ true
+view_offered v k u e some within = offerable_from 1 (single (allowance v)) k u (part_from 1 k (omega arith) (omega arith)) some (subst (λ x. u ≤ x) (sym (single_at (allowance v) k 1 e)) within)
+
 -- the first n pairs, those in use, as the part `slots[..n]` has them
 module _ (slots : List Slot) (n : ℕ) (short : n ≤ length slots) where
   pub front_length : length (take n slots) ≡ n
@@ -94,3 +97,23 @@ module _ (slots : List Slot) (n : ℕ) (short : n ≤ length slots) where
 
   pub front_largest : (c l : ℕ) → top (lengths_met c (length (take n slots)) (take n slots) l) c ≡ top (lengths_met c n slots l) c
   front_largest c l = ap (λ f. top (λ p. met c f p l) c) (fun_ext front_length_at)
+
+  -- what the type `Round` says of its pairs, said of the pairs that it is made of
+  front_every : (P : Slot → Type 0) → P none → ((i : ℕ) → P (slice_index_or slots i none)) → (i : ℕ) → P (slice_index_or (take n slots) i none)
+  front_every P past each i = elim (cases_lt i n) [ inl l ↦ subst P (sym (front_at i l)) (each i) | inr g ↦ subst P (sym (get_or_past (take n slots) i none (omega (arith, front_length)))) past ]
+
+  pub front_offsets : ((i : ℕ) → offset_of slots i ≤ 1000000) → (i : ℕ) → offset_of (take n slots) i ≤ 1000000
+  front_offsets h i = front_every (λ s. s.offset ≤ 1000000) (omega arith) h i
+
+  pub front_lengths : ((i : ℕ) → length_of slots i ≤ 1000000) → (i : ℕ) → length_of (take n slots) i ≤ 1000000
+  front_lengths h i = front_every (λ s. s.length ≤ 1000000) (omega arith) h i
+
+  pub front_rising : ((i j : ℕ) → i < j → j < n → offset_of slots i < offset_of slots j) → (i j : ℕ) → i < j → j < length (take n slots) → offset_of (take n slots) i < offset_of (take n slots) j
+  front_rising h i j l m =
+      let within : j < n = omega (arith, front_length) in
+      omega (arith, h i j l within, ap (λ s. s.offset) (front_at i (omega arith)), ap (λ s. s.offset) (front_at j within))
+
+  pub front_below : (c : ℕ) → ((i : ℕ) → i < n → offset_of slots i < c) → (i : ℕ) → i < length (take n slots) → offset_of (take n slots) i < c
+  front_below c h i l =
+      let within : i < n = omega (arith, front_length) in
+      omega (arith, h i within, ap (λ s. s.offset) (front_at i within))

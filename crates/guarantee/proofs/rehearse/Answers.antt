@@ -13,10 +13,6 @@ use Rattle.guarantee.proofs.Played.{played_more, played_whole}
 use Rattle.guarantee.proofs.Promising.{acceptable_accepted, accepted_bounds, modelled, model_keeps}
 use Rattle.guarantee.proofs.rehearse.Goals as goal
 
-some_if : (b : Bool) (n : ℕ) → is_some (cond b (Some n) None) ≡ b
-some_if true n = refl
-some_if false n = refl
-
 pub loop-place-preserved : goal.loop-place-preserved
 loop-place-preserved g c =
     let inv = c.loop-place.invariant in
@@ -78,7 +74,7 @@ returns-clause-parts g c taken =
     let v = c.judge.result.verdict in
     let parts = g.G.Source.parts in
     let told : run.terms.parts ≡ cond (is_accepted v) (Some (min (parts c.judge.result.bank) 16)) None = ap (λ t. t.parts) inv.terms ∙ begins.parts in
-    let accepted : is_accepted v ≡ true = sym (some_if (is_accepted v) (min (parts c.judge.result.bank) 16)) ∙ ap is_some (sym told) ∙ taken in
+    let accepted : is_accepted v ≡ true = sym begins.accepted ∙ ap (λ t. is_some t.parts) (sym inv.terms) ∙ taken in
     let few = (accepted_bounds (g.G.Source.demanded plan.bank) (parts plan.bank) tasks.limits table.count table.rows v c.judge.result.bounds c.judge.ensures.judged accepted).0 in
     told ∙ ap (λ b. cond b (Some (min (parts c.judge.result.bank) 16)) None) accepted ∙ ap (λ b. Some (min (parts b) 16)) c.judge.ensures.bank ∙ ap (λ n. Some n) (omega (arith, few))
 
@@ -97,8 +93,7 @@ returns-clause-stepped g c ok =
     let judged = c.judge.ensures.judged in
     let accepted : is_accepted v ≡ true = acceptable_accepted (demanded plan.bank) (parts plan.bank) tasks.limits table.count table.rows v c.judge.result.bounds judged ok in
     let bounds : run.terms.bounds ≡ c.judge.result.bounds = ap (λ t. t.bounds) inv.terms ∙ begins.bounds in
-    let told : run.terms.parts ≡ cond (is_accepted v) (Some (min (parts c.judge.result.bank) 16)) None = ap (λ t. t.parts) inv.terms ∙ begins.parts in
-    let taken : is_some run.terms.parts ≡ true = ap is_some told ∙ some_if (is_accepted v) (min (parts c.judge.result.bank) 16) ∙ accepted in
+    let taken : is_some run.terms.parts ≡ true = ap (λ t. is_some t.parts) inv.terms ∙ begins.accepted ∙ accepted in
     let many : run.terms.parts ≡ Some (parts plan.bank) = returns-clause-parts g c taken in
     let here : Fixed = record { parts = run.terms.parts; tasks = table.count; limits = tasks.limits } in
     let full : Fixed = record { parts = Some (parts plan.bank); tasks = table.count; limits = tasks.limits } in
@@ -114,8 +109,7 @@ returns-clause-guaranteed g c ok =
     let plan = c.args.plan in
     let table = plan.tasks.parts in
     let accepted : is_accepted c.judge.result.verdict ≡ true = acceptable_accepted (g.G.Source.demanded plan.bank) (g.G.Source.parts plan.bank) plan.tasks.limits table.count table.rows c.judge.result.verdict c.judge.result.bounds c.judge.ensures.judged ok in
-    let parts = min (g.G.Source.parts c.judge.result.bank) 16 in
-    (ap (λ t. is_some t.parts) c.loop-place.invariant.terms ∙ ap is_some c.start-run.ensures.parts ∙ some_if (is_accepted c.judge.result.verdict) parts ∙ accepted, model_keeps _ _ _ _ (returns-clause-stepped g c ok))
+    (ap (λ t. is_some t.parts) c.loop-place.invariant.terms ∙ c.start-run.ensures.accepted ∙ accepted, model_keeps _ _ _ _ (returns-clause-stepped g c ok))
 
 pub returns-clause-fixed : goal.returns-clause-fixed
 returns-clause-fixed g c =
