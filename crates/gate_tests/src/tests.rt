@@ -75,7 +75,7 @@ fn ask<S: Source>(rt: &impl Abort, bank: &S, part: u32, table: &[(u32, Option<u6
     }
 }
 
-// The number of the fault, 0 if there is none, and 99 if the refusal names a line or a task.
+// The number of the fault, 0 if there is none, as the tables of cases below write it, and 99 if the refusal names a line or a task.
 fn number<T: Drop>(made: Result<T, Refusal>) -> u32 {
     match made {
         Ok(_) => 0,
@@ -215,9 +215,7 @@ fn too_many_parts(rt: HostRuntime) -> Result<(), Fail> {
 
 #[test]
 fn windows(rt: HostRuntime) -> Result<(), Fail> {
-    let Ok(paced) = Paced::new(pace(10, 2, &[1])) else {
-        return Err(Fail::new("no part"));
-    };
+    let paced = Paced::new(pace(10, 2, &[1]))?;
     let ends = [
         (0, Some(0)),
         (8, Some(1)),
@@ -229,9 +227,7 @@ fn windows(rt: HostRuntime) -> Result<(), Fail> {
     ];
     ask(&rt, &paced, 1, &ends);
     ask(&rt, &paced, 2, &[(5, None)]);
-    let Ok(costs) = Paced::new(pace(5, 0, &[4, 1, 1, 3])) else {
-        return Err(Fail::new("no part"));
-    };
+    let costs = Paced::new(pace(5, 0, &[4, 1, 1, 3]))?;
     ask(
         &rt,
         &costs,
@@ -246,9 +242,7 @@ fn windows(rt: HostRuntime) -> Result<(), Fail> {
 
 #[test]
 fn one_paced_part(rt: HostRuntime) -> Result<(), Fail> {
-    let Ok(mut paced) = Paced::new(pace(10, 2, &[1])) else {
-        return Err(Fail::new("no part"));
-    };
+    let mut paced = Paced::new(pace(10, 2, &[1]))?;
     let cases = [
         offering(0, 1, 1, true, [0, NO, NO, NO]),
         offering(7, 1, 1, false, [0, NO, NO, NO]),

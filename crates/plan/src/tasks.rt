@@ -14,7 +14,8 @@ use refusal::{Fault, first_fault};
 use source::{LONGEST, Source};
 
 // What a task has besides its paced part, each from 0 to 1,000,000: how long a lower task may block it, how long a job may
-// take from its release, and how long the task itself may hold the processor at a time.
+// take from its release, and how long the task itself may hold the processor at a time. Pace and limits of a task are two
+// values, as its table keeps them: the paced parts of the tasks are a gate.
 #[derive(Clone, Copy)]
 pub struct Limit {
     pub blocking: u32,

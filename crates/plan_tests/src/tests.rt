@@ -34,7 +34,7 @@ fn schedule(cycle: u32, pairs: &[(u32, u32)]) -> Result<Schedule, Refusal> {
     Ok(made)
 }
 
-// The fault and the task of a refusal, and 0 and 0 if there is none.
+// The fault and the task of a refusal, and 0 and 0 if there is none, as the tables of cases below write it.
 fn refused(r: Result<(), Refusal>) -> (u32, u32) {
     match r {
         Ok(()) => (0, 0),

@@ -23,7 +23,7 @@ fn add_cell<T: Track>(
     Ok(())
 }
 
-// The row of a track that goes along a log.
+// The row of a track that goes along a log. The heap comes beside it, as to all that allocates.
 fn row<T: Track>(heap: Global, mut track: T, log: &Log) -> Result<Vec<u8>, AllocError>
     requires { T.Went track [] track }
     ensures { IfOk result (λ row. row.items ≡ cells (T.cell track) [] log.now) }
