@@ -150,8 +150,7 @@ module _ {S : Type 0} (parts : S → ℕ) (demanded allowed : S → ℕ → ℕ 
   step_end s t i a h did =
       by_answer (End i) s t a (end_fault (Some n) m s.state.jobs i) _ did (λ r. refl) h
       (λ e x. (let task = endable (Some n) m s.state.jobs i e in
-      let step = ended_step m s.rows s.state (allowed s.bank) i task.0 (omega (arith, task.1, h.jobs)) task.2 in
-      (
+      let step = ended_step m s.rows s.state (allowed s.bank) i task.0 (omega (arith, task.1, h.jobs)) task.2 in (
         answered (End i) s t a answers.Done _ x.0 (kept_view s t (ended s.state i) x.1 x.2 x.3) step,
         kept_inside s t h x.1 x.2 (ap (λ y. length y.backlogs) x.3 ∙ h.backlogs) (ap (λ y. length y.jobs) x.3 ∙ length-set s.state.jobs (i - 1) no_job ∙ h.jobs) (subst (Whose m) (sym x.3) (λ w e. h.whose w (after_end i s.state.hold w e).0)),
       )))

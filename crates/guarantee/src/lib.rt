@@ -43,6 +43,7 @@ pub fn rehearse<G: Gate>(plan: OpenPlan<G>, calls: &[Call], answers: &mut [Answe
 
 // How many tasks the plan of the example has. That there is a gate, an acceptable plan over it, and a list of calls in which an
 // offer is taken, a job is released, a hold is granted, a call is refused and a tick ends a job, is what this function promises.
+#[tactic(auto, using(crate::proofs::Exampled::example))]
 pub fn example() -> u32
     ensures tasks { result ≡ 1 }
     ensures example { Example }

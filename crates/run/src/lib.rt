@@ -25,8 +25,8 @@ use plan::verdict::Verdict;
 use refusal::{Fault, Refusal};
 use source::{Gate, Source};
 
-// What a run keeps from its start on: the limits and bounds of the tasks and, if the plan is accepted, how many parts the
-// bank has.
+// What a run keeps from its start on: the limits and bounds of the tasks, by place, in fixed memory as the project wants it;
+// and, if the plan is accepted, how many parts the bank has.
 #[derive(Clone, Copy)]
 pub struct Terms {
     limits: [Limit; 16],

@@ -37,8 +37,9 @@ pub struct Hold {
     pub units: u64,
 }
 
-// The backlog of each part and the job of each task, by place from 0, and the hold, if a task holds the processor. What the
-// state of a run keeps to stands at the run, so that a rule can say plainly what a call makes of a state.
+// The backlog of each part and the job of each task, by place from 0, in fixed memory as the project wants it; and the hold, if
+// a task holds the processor. What the state of a run keeps to stands at the run, so that a rule can say plainly what a call
+// makes of a state.
 #[derive(Clone, Copy)]
 pub struct State {
     pub backlogs: [u64; 16],

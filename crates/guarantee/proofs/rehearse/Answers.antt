@@ -1,4 +1,4 @@
-use Rattle.std.proofs.Common.{◌≡◌, ℕ, ◌<◌, ◌≤◌, min, Bool, true, false, cond, Some, None, refl, length, take, get_or, sym, ap, ◌∙◌, subst, arith}
+use Rattle.std.proofs.Common.{◌≡◌, ℕ, ◌<◌, ◌≤◌, min, true, cond, Some, None, length, take, get_or, sym, ap, ◌∙◌, subst, arith}
 use Rattle.std.specs.Prelude.{is_some}
 use Rattle.std.proofs.lemmas.List.{drop-set-lt, get_or-take, length-take-le}
 use Rattle.paced.specs.Pace.{Fit}
@@ -110,10 +110,3 @@ returns-clause-guaranteed g c ok =
     let table = plan.tasks.parts in
     let accepted : is_accepted c.judge.result.verdict ≡ true = acceptable_accepted (g.G.Source.demanded plan.bank) (g.G.Source.parts plan.bank) plan.tasks.limits table.count table.rows c.judge.result.verdict c.judge.result.bounds c.judge.ensures.judged ok in
     (ap (λ t. is_some t.parts) c.loop-place.invariant.terms ∙ c.start-run.ensures.accepted ∙ accepted, model_keeps _ _ _ _ (returns-clause-stepped g c ok))
-
-pub returns-clause-fixed : goal.returns-clause-fixed
-returns-clause-fixed g c =
-    let inv = c.loop-place.invariant in
-    let begins = c.start-run.ensures in
-    let tasks = c.judge.ensures.tasks in
-    (ap (λ t. t.limits) inv.terms ∙ begins.limits ∙ ap (λ t. t.limits) tasks, inv.tasks ∙ ap (λ t. t.count) begins.table ∙ ap (λ t. t.parts.count) tasks)
