@@ -10,6 +10,7 @@ fn rounded_up(all: u64, ticks: u32) -> u64
     requires small { all ≤ 10000 * 4294967295 }
     ensures { result ≡ rounded_up all ticks }
 {
+    // as the definition says it: `div_ceil` goes by a remainder, and a lemma would have to join the two
     (all + u64::from(ticks - 1)) / u64::from(ticks)
 }
 

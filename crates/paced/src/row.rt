@@ -66,7 +66,7 @@ fn whole(costs: &[u32]) -> u32
     ensures { result ≡ sum (at costs.now) (length costs.now) }
 {
     let mut all = 0;
-    // a rule of the project: a sum over costs is a loop with their index
+    // a rule of the project: costs are added up by a loop
     for cost in costs {
         all += *cost;
     }
@@ -78,7 +78,7 @@ fn largest(costs: &[u32]) -> u32
     ensures { result ≡ top (at costs.now) (length costs.now) }
 {
     let mut most = 0;
-    // a rule of the project: the largest of costs is found by a loop with their index
+    // a rule of the project: the largest cost is kept in a loop
     for cost in costs {
         most = most.max(*cost);
     }
@@ -101,7 +101,7 @@ fn largest_part(costs: &[u32], m: u32) -> u32
 {
     let mut window = whole(&costs[..m as usize]);
     let mut best = 0;
-    // a rule of the project, as at `largest`
+    // a rule of the project: a loop over costs with their index, which sums and keeps the largest
     for (place, cost) in costs.iter().enumerate() {
         best = best.max(window);
         let end = wrapped(costs.len(), place + m as usize);
@@ -121,7 +121,7 @@ impl Pace<'_> {
             && all_in_range(self.costs)
     }
 
-    // What is wrong with a paced part of these numbers, if anything is.
+    // What is wrong with a paced part of these numbers, if anything is: an option, as `first_fault` takes two.
     pub fn fault(self) -> Option<Fault>
         ensures { result ≡ fault_of self.entry.period self.entry.jitter self.entry.costs.now }
     {
@@ -159,6 +159,7 @@ impl Row {
         ensures fit { IfOk result (λ row. Fit row) }
         ensures made { MatchResult result (λ row. (fault_of pace.entry.period pace.entry.jitter pace.entry.costs.now ≡ None) × (row ≡ fresh pace.entry.period pace.entry.jitter pace.entry.costs.now)) (λ fault. fault_of pace.entry.period pace.entry.jitter pace.entry.costs.now ≡ Some fault) }
     {
+        // a match: only of a pace without a fault there is a row
         match pace.fault() {
             Some(fault) => Err(fault),
             None => Ok(pace.fresh_row()),

@@ -17,7 +17,8 @@ use source::{Gate, LONGEST, MOST_PARTS, Source};
 // plus period.
 #[derive(Clone, Copy)]
 pub struct Table<const ROOM: usize> {
-    // rows and how many are in use: a rule of the project, which has fixed memory and no heap here
+    // rows and how many are in use: a rule of the project, which has fixed memory and no heap here; and a method that changes rows
+    // copies them, changes the copy and writes it back whole
     rows: [Row; ROOM],
     count: u32,
     ghost held: { length rows ≡ ROOM },
@@ -60,7 +61,7 @@ impl<const ROOM: usize> Table<ROOM> {
         self.rows[..self.count as usize].get(place as usize)
     }
 
-    // What is wrong with one part more, if anything is.
+    // What is wrong with one part more, if anything is: an option, as `first_fault` takes two.
     pub fn fault(&self, pace: Pace) -> Option<Fault>
         ensures { result ≡ adding (min ROOM 1000) self.now.count pace.entry.period pace.entry.jitter pace.entry.costs.now }
     {

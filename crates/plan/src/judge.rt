@@ -17,6 +17,7 @@ pub(crate) struct Finding {
 }
 
 impl<S: Source> OpenPlan<S> {
+    // Judges one task after another.
     fn find(&self) -> Finding
         ensures { Judged (S.Source.demanded self.now.bank) (S.Source.parts self.now.bank) self.now.tasks.limits self.now.tasks.parts.count self.now.tasks.parts.rows result.verdict result.bounds }
     {

@@ -11,7 +11,7 @@ use paced::row::Pace;
 use refusal::Refusal;
 use source::Source;
 
-// A plan that takes tasks, over a bank.
+// A plan that takes tasks, over a bank. The judge and the search, in files of their own, are methods of it.
 #[derive(Drop)]
 pub struct OpenPlan<S> {
     pub(crate) bank: S,
@@ -67,13 +67,11 @@ impl<S> OpenPlan<S> {
         ensures added { MatchResult result (λ _. (task_fault self.old.tasks.limits self.old.tasks.parts.count pace.entry.period pace.entry.jitter limit.blocking limit.deadline limit.hold pace.entry.costs.now ≡ None) × (self.new.tasks.parts.rows ≡ slice_set self.old.tasks.parts.rows self.old.tasks.parts.count (fresh pace.entry.period pace.entry.jitter pace.entry.costs.now)) × (self.new.tasks.parts.count ≡ self.old.tasks.parts.count + 1) × (self.new.tasks.limits ≡ slice_set self.old.tasks.limits self.old.tasks.parts.count limit)) (λ e. (task_fault self.old.tasks.limits self.old.tasks.parts.count pace.entry.period pace.entry.jitter limit.blocking limit.deadline limit.hold pace.entry.costs.now ≡ Some e.fault) × (e.line ≡ 0) × (e.task ≡ self.old.tasks.parts.count + 1) × (self.new.tasks ≡ self.old.tasks)) }
     {
         let task = self.tasks.count() + 1;
-        let mut tasks = self.tasks;
-        tasks.add(pace, limit).map_err(|fault| Refusal {
+        self.tasks.add(pace, limit).map_err(|fault| Refusal {
             fault,
             line: 0,
             task,
         })?;
-        self.tasks = tasks;
         Ok(())
     }
 }

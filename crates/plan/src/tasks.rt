@@ -69,7 +69,7 @@ impl Tasks {
         bearable_by(&self.limits[..count], hold)
     }
 
-    // What is wrong with the limits of one task more, if anything is.
+    // What is wrong with the limits of one task more, if anything is: an option, as `first_fault` takes two.
     fn limit_fault(&self, pace: Pace, limit: Limit) -> Option<Fault>
         ensures { result ≡ limit_fault self.now.limits self.now.parts.count pace.entry.period pace.entry.jitter limit.blocking limit.deadline limit.hold }
     {

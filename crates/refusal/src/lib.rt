@@ -38,6 +38,7 @@ pub enum Fault {
     BufferTooShort,
 }
 
+// The table of refusals, said fault by fault, so that each row can be held against the pages: a rule of the project.
 impl Fault {
     // The number by which listings know the fault.
     pub fn number(self) -> u32
@@ -108,7 +109,7 @@ impl Fault {
 pub fn first_fault(a: Option<Fault>, b: Option<Fault>) -> Option<Fault>
     ensures { result ≡ first_of a b }
 {
-    // three arms, and no `min_by_key` over both: of that one has to know which of two equal numbers it takes
+    // a match: at `min_by_key` a reader has to know which of two equal numbers it takes
     match (a, b) {
         (Some(f), Some(g)) if f.number() > g.number() => Some(g),
         (Some(f), _) => Some(f),

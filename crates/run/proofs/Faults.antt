@@ -10,7 +10,7 @@ use Rattle.source.specs.Facts.{is_part}
 use Rattle.source.proofs.Parts.{part_bounds}
 use Rattle.paced.proofs.Makings.{passed}
 use Rattle.plan.specs.declared.tasks.Limit.{Limit}
-use Rattle.run.specs.Faults.{tick_fault, number_fault, units_fault, task_fault, offer_fault, release_fault, grantable, hold_fault, let_go_fault, end_fault}
+use Rattle.run.specs.Faults.{tick_fault, number_fault, units_fault, numbered_fault, offer_fault, release_fault, grantable, hold_fault, let_go_fault, end_fault}
 use Rattle.run.specs.States.{left_of, hold_of, holds, holder, holder_in, first_pending}
 use Rattle.run.specs.declared.state.Hold.{Hold}
 use Rattle.run.specs.declared.state.Job.{Job}
@@ -26,9 +26,9 @@ no_fault : (b : Bool) (f : Fault) → cond b None (Some f) ≡ None → b ≡ tr
 no_fault b f e = (passed b None f e).0
 
 -- a run that is accepted and a task that there is
-task_of : (parts : Option ℕ) (n i : ℕ) (rest : Option Fault) → option_or (task_fault parts n i) rest ≡ None → (1 ≤ i) × (i ≤ n) × (rest ≡ None)
+task_of : (parts : Option ℕ) (n i : ℕ) (rest : Option Fault) → option_or (numbered_fault parts n i) rest ≡ None → (1 ≤ i) × (i ≤ n) × (rest ≡ None)
 task_of parts n i rest e =
-    let all = neither (task_fault parts n i) rest e in
+    let all = neither (numbered_fault parts n i) rest e in
     let number = neither (tick_fault parts) (number_fault n i) all.0 in
     let bounds = part_bounds n i (no_fault (is_part n i) NoSuchNumber number.1) in
     (bounds.0, bounds.1, all.1)

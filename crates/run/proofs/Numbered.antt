@@ -1,5 +1,5 @@
 -- What stands at numbers that count from 1, and after a change at one of them.
-use Rattle.std.proofs.Common.{◌≡◌, ℕ, ◌+◌, ◌-◌, ◌≤◌, cond, eqb, leb, List, length, get_or, set, ◌≢◌, sym, ap, ◌∙◌, inl, inr, arith}
+use Rattle.std.proofs.Common.{◌≡◌, ℕ, ◌-◌, ◌≤◌, cond, eqb, leb, List, length, get_or, set, ◌≢◌, sym, ap, ◌∙◌, inl, inr, arith}
 use Rattle.std.proofs.lemmas.Bool.{cond-true, cond-false, le-leb, lt-leb, eq-eqb, ne_eqb, cases_eq, cases_lt}
 use Rattle.std.proofs.lemmas.List.{get_or-set_same, get_or-set_other}
 
@@ -13,10 +13,6 @@ module _ {A : Type 0} (d : A) (g : A → ℕ) where
 
   numbered_zero : (xs : List A) (j : ℕ) → j ≡ 0 → numbered xs j ≡ 0
   numbered_zero xs j h = cond-false (leb 1 j) (g (get_or xs (j - 1) d)) 0 (lt-leb 1 j (omega arith))
-
-  -- place i has number i + 1
-  pub numbered_place : (xs : List A) (i : ℕ) → numbered xs (i + 1) ≡ g (get_or xs i d)
-  numbered_place xs i = numbered_some xs (i + 1) (omega arith) ∙ ap (λ k. g (get_or xs k d)) (omega arith)
 
   pub numbered_same : (xs : List A) (k : ℕ) (v : A) → 1 ≤ k → k ≤ length xs → numbered (set xs (k - 1) v) k ≡ g v
   numbered_same xs k v some within = numbered_some (set xs (k - 1) v) k some ∙ ap g (get_or-set_same xs (k - 1) v d (omega arith))

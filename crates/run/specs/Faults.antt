@@ -32,18 +32,18 @@ number_fault n k = range_fault NoSuchNumber n k
 abbrev pub units_fault : ℕ → ℕ → Option Fault
 units_fault most u = range_fault UnitsNotAllowed most u
 
--- what is wrong with task i of n
-abbrev pub task_fault : Option ℕ → ℕ → ℕ → Option Fault
-task_fault parts n i = option_or (tick_fault parts) (number_fault n i)
+-- what is wrong with number k of n parts or tasks of a run
+abbrev pub numbered_fault : Option ℕ → ℕ → ℕ → Option Fault
+numbered_fault parts n i = option_or (tick_fault parts) (number_fault n i)
 
 -- an offer of u units to part k of the bank, of which that part may bring `most` in this tick: all backlogs together stay
 -- within 1,000,000 units
 abbrev pub offer_fault : Option ℕ → ℕ → List ℕ → ℕ → ℕ → Option Fault
-offer_fault parts most backlogs k u = option_or (task_fault parts (unwrap_or parts 0) k) (option_or (units_fault most u) (cond (nat_le (sum backlogs + u) 1000000) None (Some BacklogFull)))
+offer_fault parts most backlogs k u = option_or (numbered_fault parts (unwrap_or parts 0) k) (option_or (units_fault most u) (cond (nat_le (sum backlogs + u) 1000000) None (Some BacklogFull)))
 
 -- a release of task i of n with u units, of which the task may bring `most` in this tick: no job of it may be pending
 abbrev pub release_fault : Option ℕ → ℕ → ℕ → List Job → ℕ → ℕ → Option Fault
-release_fault parts n most jobs i u = option_or (task_fault parts n i) (option_or (units_fault most u) (cond (nat_eq (left_of jobs i) 0) None (Some JobPending)))
+release_fault parts n most jobs i u = option_or (numbered_fault parts n i) (option_or (units_fault most u) (cond (nat_eq (left_of jobs i) 0) None (Some JobPending)))
 
 -- a hold of u units is granted to task i of n: nobody holds, the task is the highest with a pending job, and the units are
 -- from 1 to its longest hold and to those left of its job
@@ -51,12 +51,12 @@ abbrev pub grantable : ℕ → List Limit → State → ℕ → ℕ → Bool
 grantable n limits s i u = is_none s.hold && (option_eq nat_eq (first_pending s.jobs n) (Some i) && (nat_le 1 u && (nat_le u (hold_of limits i) && nat_le u (left_of s.jobs i))))
 
 abbrev pub hold_fault : Option ℕ → ℕ → List Limit → State → ℕ → ℕ → Option Fault
-hold_fault parts n limits s i u = option_or (task_fault parts n i) (cond (grantable n limits s i u) None (Some HoldNotGranted))
+hold_fault parts n limits s i u = option_or (numbered_fault parts n i) (cond (grantable n limits s i u) None (Some HoldNotGranted))
 
 -- task i of n lets go: it has to be the holder
 abbrev pub let_go_fault : Option ℕ → ℕ → State → ℕ → Option Fault
-let_go_fault parts n s i = option_or (task_fault parts n i) (cond (holds s.hold i) None (Some NothingToEnd))
+let_go_fault parts n s i = option_or (numbered_fault parts n i) (cond (holds s.hold i) None (Some NothingToEnd))
 
 -- the job of task i of n is ended: one has to be pending
 abbrev pub end_fault : Option ℕ → ℕ → List Job → ℕ → Option Fault
-end_fault parts n jobs i = option_or (task_fault parts n i) (cond (nat_le 1 (left_of jobs i)) None (Some NothingToEnd))
+end_fault parts n jobs i = option_or (numbered_fault parts n i) (cond (nat_le 1 (left_of jobs i)) None (Some NothingToEnd))

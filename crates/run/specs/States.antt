@@ -61,6 +61,7 @@ pub record Within (n : ℕ) (limits : List Limit) (jobs : List Job) (h : Hold) :
   pub left : h.units ≤ left_of jobs h.task
   pub short : h.units ≤ hold_of limits h.task
 
+-- with n tasks of these limits, there is no hold but such a one
 abbrev pub Known : ℕ → List Limit → State → Type 0
 Known n limits s = ForSome s.hold (λ h. Within n limits s.jobs h)
 

@@ -36,16 +36,18 @@ told_age jobs i = cond (nat_le (left_of jobs i) 1) (Some (min (age_of jobs i + 1
 abbrev pub foremost : ℕ → State → Option ℕ
 foremost n s = option_or (option_map (λ h. h.task) s.hold) (first_pending s.jobs n)
 
--- who gets the unit of a tick, of a bank of m parts and n tasks: the lowest-numbered part with backlog, else the task that
--- goes before the others, else nobody
+-- a task that gets the unit, or nobody
 abbrev pub due_task : List Job → Option ℕ → Got
 due_task jobs None = Nobody
 due_task jobs (Some i) = Task i (told_age jobs i)
 
+-- a part that gets the unit, or else who that is
 abbrev pub due_first : Option ℕ → Got → Got
 due_first None got = got
 due_first (Some k) got = Part k
 
+-- who gets the unit of a tick, of a bank of m parts and n tasks: the lowest-numbered part with backlog, else the task that
+-- goes before the others, else nobody
 abbrev pub due : ℕ → ℕ → State → Got
 due m n s = due_first (first_backlog s.backlogs m) (due_task s.jobs (foremost n s))
 

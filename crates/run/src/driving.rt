@@ -4,7 +4,7 @@ ghost use Rattle.source.specs.Facts.{offerable, Kept, Taken};
 
 use source::Gate;
 
-// Offers units that the gate takes.
+// Offers units that the gate takes, so that its answer needs no look.
 pub(crate) fn give<G: Gate>(gate: &mut G, part: u32, units: u64)
     requires { offerable (G.Source.parts gate.old) (G.Source.allowed gate.old) part units ≡ true }
     ensures takes { G.Gate.takes gate.old part units gate.new }

@@ -7,7 +7,7 @@ ghost use Rattle.std.specs.Option.{ForSome};
 ghost use Rattle.source.specs.Facts.{Kept, Taken, Ticked};
 ghost use Rattle.paced.specs.Tables.{row_at, demands_of, allowances_of, Gives, Passes};
 ghost use Rattle.plan.specs.Limits.{limit_at};
-ghost use Rattle.run.specs.Faults.{named, range_fault, number_fault, units_fault, task_fault, offer_fault, release_fault, grantable, hold_fault, let_go_fault, end_fault, tick_fault};
+ghost use Rattle.run.specs.Faults.{named, range_fault, number_fault, units_fault, numbered_fault, offer_fault, release_fault, grantable, hold_fault, let_go_fault, end_fault, tick_fault};
 ghost use Rattle.run.specs.States.{at_start, is_accepted, Known, Lasting};
 ghost use Rattle.run.specs.Steps.{grown, released, granted, let_go, ended, due, passed};
 
@@ -122,7 +122,7 @@ impl<G: Source> Run<G> {
 
     // Looks for what is wrong with a task, or with the run.
     fn check_task(&self, task: u32) -> Result<(), Fault>
-        ensures { MatchResult result (λ _. task_fault self.now.terms.parts self.now.table.count task ≡ None) (λ fault. task_fault self.now.terms.parts self.now.table.count task ≡ Some fault) }
+        ensures { MatchResult result (λ _. numbered_fault self.now.terms.parts self.now.table.count task ≡ None) (λ fault. numbered_fault self.now.terms.parts self.now.table.count task ≡ Some fault) }
     {
         self.parts()?;
         check_range(task.into(), self.table.count().into(), Fault::NoSuchNumber)

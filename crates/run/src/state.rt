@@ -38,8 +38,7 @@ pub struct Hold {
 }
 
 // The backlog of each part and the job of each task, by place from 0, in fixed memory as the project wants it; and the hold, if
-// a task holds the processor. What the state of a run keeps to stands at the run, so that a rule can say plainly what a call
-// makes of a state.
+// a task holds the processor. What a state keeps to stands at the run.
 #[derive(Clone, Copy)]
 pub struct State {
     pub backlogs: [u64; 16],

@@ -22,6 +22,8 @@ fn first_left(jobs: &[Job]) -> Option<usize>
     jobs.iter().position(|job| job.left > 0)
 }
 
+// A state has no invariants, since the definitions of what a call makes write states down and would owe a proof for each; so each
+// method asks for the places that it goes to.
 impl State {
     // The state of a run at its start.
     pub(crate) fn at_start() -> State
@@ -77,6 +79,7 @@ impl State {
         self.hold.is_some_and(|hold| hold.task == task)
     }
 
+    // Units were offered to a part.
     pub(crate) fn grow(&mut self, part: u32, units: u64)
         requires first { 1 ≤ part }
         requires last { part ≤ length self.old.backlogs }
@@ -86,6 +89,7 @@ impl State {
         self.backlogs[(part - 1) as usize] += units;
     }
 
+    // A job of a task is released.
     pub(crate) fn release(&mut self, task: u32, units: u64)
         requires first { 1 ≤ task }
         requires last { task ≤ length self.old.jobs }
@@ -97,18 +101,21 @@ impl State {
         };
     }
 
+    // A hold is granted.
     pub(crate) fn grant(&mut self, task: u32, units: u64)
         ensures { self.new ≡ granted self.old task units }
     {
         self.hold = Some(Hold { task, units });
     }
 
+    // Nobody holds any more.
     pub(crate) fn let_go(&mut self)
         ensures { self.new ≡ let_go self.old }
     {
         self.hold = None;
     }
 
+    // The job of a task is ended, and any hold of that task.
     pub(crate) fn end(&mut self, task: u32)
         requires first { 1 ≤ task }
         requires last { task ≤ length self.old.jobs }
@@ -157,6 +164,7 @@ impl State {
         }
     }
 
+    // A part is given a unit.
     fn serve_part(&mut self, part: u32)
         requires first { 1 ≤ part }
         requires last { part ≤ length self.old.backlogs }
@@ -166,6 +174,7 @@ impl State {
         self.backlogs[place] = self.backlogs[place].saturating_sub(1);
     }
 
+    // A task is given a unit.
     fn serve_task(&mut self, task: u32)
         requires first { 1 ≤ task }
         requires last { task ≤ length self.old.jobs }

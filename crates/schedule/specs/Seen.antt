@@ -1,4 +1,4 @@
--- A schedule as its rule sees it: all of it but the sum of its lengths.
+-- A schedule as demand, allowance, offers and ticks are defined for it: all of it but the sum of its lengths.
 use Rattle.schedule.specs.Phases.{View}
 use Rattle.schedule.specs.declared.cyclic.Schedule.{Schedule}
 

@@ -1,5 +1,5 @@
 // Pairs of offset and length, and the largest sum of lengths in a window shorter than the cycle.
-ghost use Rattle.std.specs.Prelude.{◌≡◌, ℕ, ◌+◌, ◌-◌, ◌<◌, ◌≤◌, length, max};
+ghost use Rattle.std.specs.Prelude.{◌≡◌, ℕ, ◌+◌, ◌-◌, ◌<◌, ◌≤◌, length};
 ghost use Rattle.cycles.specs.Round.{sum, top};
 ghost use Rattle.schedule.specs.Phases.{offset_of, length_of, length_at, lengths_met};
 ghost use Rattle.schedule.specs.Twice.{offset_twice, units_twice};
@@ -17,13 +17,6 @@ pub struct Slot {
 struct Reach {
     end: usize,
     sum: u32,
-}
-
-// The larger of the largest sum so far and the sum from the next pair on.
-fn larger(best: u32, next: u32) -> u32
-    ensures { result ≡ max best next }
-{
-    best.max(next)
 }
 
 // The pairs in use and the cycle that they lie in: the offsets strictly rise and are below the cycle.
@@ -94,7 +87,7 @@ impl<'a> Round<'a> {
         let mut reach = Reach { end: 0, sum: 0 };
         for (start, slot) in self.slots.iter().enumerate() {
             reach = self.moved_on(reach, slot.offset + ticks, size + start);
-            best = larger(best, reach.sum - passed);
+            best = best.max(reach.sum - passed);
             passed += slot.length;
         }
         best

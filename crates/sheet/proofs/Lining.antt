@@ -24,7 +24,3 @@ module _ (n : ℕ) (o : Option Plan) where
       let whole : before 10 rest ≡ rest = sym (ap (joined 10) alone) ∙ (only_cut 10 rest).0.whole in
       ap (read_on n o) alone
       ∙ cond-false (eqb (length (before 10 rest)) 0) (ended n o) (Err (on_line (n + 1) (plain ForeignByte))) (ne_eqb (length (before 10 rest)) 0 (λ z. omega (arith, ap length whole)))
-
-  pub at_end : (rest : List ℕ) → length rest ≡ 0 → read_on n o (pieces 10 rest) ≡ ended n o
-  at_end [] h = refl
-  at_end (x ∷ xs) h = absurd (omega arith)

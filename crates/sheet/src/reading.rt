@@ -62,7 +62,8 @@ fn read_on(draft: &mut Draft, sheet: &[u8]) -> Result<u32, Refusal>
     requires { length sheet.now ≤ 16384 }
     ensures { MatchResult result (λ n. read_on 1 (Some (view draft.old)) (pieces 10 sheet.now) ≡ Ok (record { plan = view draft.new; lines = n })) (λ e. read_on 1 (Some (view draft.old)) (pieces 10 sheet.now) ≡ Err e) }
 {
-    // counted by hand: lines come off the rest one by one, and no iterator gives them with their numbers
+    // counted by hand: each line comes off the rest with its refusal, and `split_inclusive` would leave its line feed to be cut off and
+    // looked for once more
     let mut lines = 1;
     let mut rest = sheet;
     while !rest.is_empty() {

@@ -35,6 +35,7 @@ impl<A: Source, B: Source> Source for Pair<A, B> {
         (self.left.count() + self.right.count()).min(MOST_PARTS)
     }
 
+    // the side is chosen by the number in each call: a value for the side would only be matched again
     fn demand(&self, part: u32, ticks: u32) -> Option<u64> {
         let lefts = self.left.count();
         if part <= lefts {

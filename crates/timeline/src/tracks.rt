@@ -21,7 +21,7 @@ pub(crate) trait Track: Drop {
     fn mark(&self, got: Got) -> u8
         ensures { (start : Self) (log : List Event) → Went start log self.now → result ≡ cell start log got };
 
-    // Takes a call and the answer to it: two values, as they come from the two lists of a log.
+    // Takes a call and the answer to it: two values, as a log has them in two lists, since each match takes both apart.
     fn pass(&mut self, call: Call, answer: Answer)
         requires { (start : Self) × (log : List Event) × Went start log self.old × (length log < 2 ^ 63) }
         ensures { (start : Self) (log : List Event) → Went start log self.old → Went start (log ++ (record { call = call; answer = answer } ∷ [])) self.new };
