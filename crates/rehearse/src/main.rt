@@ -128,6 +128,7 @@ fn print_timeline(
 
 // Rehearses what the input says.
 fn print_rehearsal(rt: &HostRuntime, view: View, input: &[u8]) -> anyhow::Result<()> {
+    // there always is one: its schedule has a cycle of 1
     let Ok(mut plan) = no_plan() else {
         return Ok(());
     };
