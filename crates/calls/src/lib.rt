@@ -77,7 +77,7 @@ impl Got {
         }
     }
 
-    // The number of the part or task that got the unit, 0 if nobody did.
+    // The number of the part or task that got the unit, 0 if nobody did, as it is defined in numbers.
     pub fn number(self) -> u32
         ensures { result ≡ (told self).number }
     {
@@ -88,7 +88,7 @@ impl Got {
         }
     }
 
-    // The age of the job that ended, 0 if none did.
+    // The age of the job that ended, 0 if none did, as it is defined in numbers. The three ask different things of who got the unit.
     pub fn age(self) -> u32
         ensures { result ≡ (told self).age }
     {

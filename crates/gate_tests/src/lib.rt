@@ -157,17 +157,11 @@ impl Source for Even {
     }
 
     fn demand(&self, part: u32, ticks: u32) -> Option<u64> {
-        if part < 1 || part > self.count() || ticks > LONGEST {
-            return None;
-        }
-        Some(over(1, ticks))
+        ((1..=self.count()).contains(&part) && ticks <= LONGEST).then(|| over(1, ticks))
     }
 
     fn allowance(&self, part: u32) -> Option<u64> {
-        if part < 1 || part > self.count() {
-            return None;
-        }
-        Some(1)
+        (1..=self.count()).contains(&part).then_some(1)
     }
 }
 

@@ -6,7 +6,8 @@ use calls::{Answer, Call};
 use run::Run;
 use source::Gate;
 
-// Makes one call of a run, and gives its answer.
+// Makes one call of a run, and gives its answer. The clauses write out what is fixed and what changes of a run, since the definitions
+// speak of these two records alone.
 pub fn make<G: Gate>(run: &mut Run<G>, call: Call) -> Answer
     ensures did { Did G.Source.allowed G.Gate.takes G.Gate.ticks (record { parts = run.old.terms.parts; tasks = run.old.table.count; limits = run.old.terms.limits }) call result (record { bank = run.old.bank; rows = run.old.table.rows; state = run.old.state }) (record { bank = run.new.bank; rows = run.new.table.rows; state = run.new.state }) }
     ensures fixed { (run.new.terms ≡ run.old.terms) × (run.new.table.count ≡ run.old.table.count) }

@@ -10,7 +10,7 @@ use refusal::Fault;
 use words::split::first_word;
 use words::token::{Line, Token, check_line, next_token};
 
-// The keyword that a word is.
+// The keyword that a word is, by patterns: a rule of the project.
 fn keyword(word: &[u8]) -> Option<Kind>
     ensures { result ≡ kind_of word.now }
 {
@@ -49,6 +49,7 @@ impl<'a> Reader<'a> {
         ensures { result ≡ costs_said (numbers_after self.old.rest.now) }
     {
         let mut costs = Costs::none();
+        // costs come off the rest one by one: nothing is counted here
         while !self.rest.is_empty() {
             let cost = self.number()?;
             costs.push(cost);

@@ -22,7 +22,7 @@ pub struct Costs {
     pub count: usize,
 }
 
-// What a line says. Offsets, lengths, periods, jitters, deadlines and holds are in ticks, blocking and costs in units.
+// What a line says, number for number as it stands there. Offsets, lengths, periods, jitters, deadlines and holds are in ticks, blocking and costs in units.
 #[derive(Clone, Copy)]
 pub enum Row {
     Cycle {

@@ -22,7 +22,7 @@ fn push<T: Copy>(table: &mut [T], count: &mut u32, item: T) -> bool
 }
 
 // What the listing tells of a task.
-#[derive(Clone, Copy)]
+#[derive(Clone, Copy, Default)]
 pub struct TaskMark {
     pub bound: u32,
     pub deadline: u32,
@@ -51,15 +51,10 @@ impl Marks {
         ensures task_count { result.task_count ≡ 0 }
         ensures tasks { result.tasks ≡ replicate 16 unmarked }
     {
-        let unmarked = TaskMark {
-            bound: 0,
-            deadline: 0,
-            load: 0,
-        };
         Marks {
             parts: [0; 9],
             part_count: 0,
-            tasks: [unmarked; 16],
+            tasks: [TaskMark::default(); 16],
             task_count: 0,
         }
     }

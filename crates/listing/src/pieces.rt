@@ -11,7 +11,7 @@ pub(crate) enum Piece<'a> {
     Number(u64),
 }
 
-// A text that is being written: the buffer that it stands in, and where it ends there.
+// A text that is being written: the buffer that it stands in, which is the caller's and no `Vec`, and where it ends there.
 #[derive(Drop)]
 pub(crate) struct Text<'a> {
     pub(crate) buffer: &'a mut [u8],

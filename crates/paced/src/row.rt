@@ -15,6 +15,7 @@ pub const LARGEST: u32 = 1_000_000;
 
 // What is given of a paced part: an arrival at most every `period` ticks, each offered up to `jitter` ticks late, for
 // these costs in turn.
+// The clauses name the three, since the definitions serve rows, lines of a sheet and paces alike.
 #[derive(Clone, Copy)]
 pub struct Pace<'a> {
     pub period: u32,
@@ -24,7 +25,7 @@ pub struct Pace<'a> {
 
 // A paced part: an arrival at most every `period` ticks, each offered up to `jitter` ticks late, for the costs
 // 0 to `count` - 1 in turn. `level` is how far the offers are ahead of the pace, `place` that of the next cost.
-#[derive(Clone, Copy)]
+#[derive(Clone, Copy, Default)]
 pub struct Row {
     pub period: u32,
     pub jitter: u32,

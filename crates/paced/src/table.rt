@@ -34,15 +34,7 @@ impl<const ROOM: usize> Table<ROOM> {
         ensures rows { result.rows ≡ replicate ROOM unused }
         ensures count { result.count ≡ 0 }
     {
-        let unused = Row {
-            period: 0,
-            jitter: 0,
-            count: 0,
-            costs: [0; 8],
-            level: 0,
-            place: 0,
-        };
-        let rows = [unused; ROOM];
+        let rows = [Row::default(); ROOM];
         Table { rows, count: 0 }
     }
 

@@ -1,4 +1,5 @@
-// The judge: task after task, from the highest on, until one has no window within its deadline.
+// The judge: task after task, from the highest on, until one has no window within its deadline. Its clauses name what a verdict rests
+// on, the demand, the parts, the limits, the count and the rows of the tasks, since the definitions speak of no plan and no gate.
 ghost use Rattle.plan.specs.Judged.{Judged, OnlyJudged};
 
 use crate::stages::OpenPlan;

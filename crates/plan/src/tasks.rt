@@ -16,7 +16,7 @@ use source::{LONGEST, Source};
 // What a task has besides its paced part, each from 0 to 1,000,000: how long a lower task may block it, how long a job may
 // take from its release, and how long the task itself may hold the processor at a time. Pace and limits of a task are two
 // values, as its table keeps them: the paced parts of the tasks are a gate.
-#[derive(Clone, Copy)]
+#[derive(Clone, Copy, Default)]
 pub struct Limit {
     pub blocking: u32,
     pub deadline: u32,
@@ -50,14 +50,9 @@ impl Tasks {
         ensures count { result.parts.count ≡ 0 }
         ensures limits { result.limits ≡ replicate 16 unlimited }
     {
-        let unlimited = Limit {
-            blocking: 0,
-            deadline: 0,
-            hold: 0,
-        };
         Tasks {
             parts: Table::new(),
-            limits: [unlimited; 16],
+            limits: [Limit::default(); 16],
         }
     }
 

@@ -5,6 +5,7 @@ ghost use Rattle.plan.specs.declared.verdict.Verdict.TheVariants.{Late};
 
 use refusal::{Fault, Refusal};
 
+// A verdict, and no `Result`: a plan that is judged late is judged, and `outcome` makes a refusal of it for those who want one.
 #[derive(Clone, Copy, PartialEq, Eq, Debug)]
 pub enum Verdict {
     // Every one of that many tasks has a bound of at most its deadline.
@@ -24,7 +25,8 @@ impl Verdict {
         Verdict::Late(place + 1)
     }
 
-    // The number of the refusal that the verdict stands for, 0 if the plan is accepted.
+    // The number of the refusal that the verdict stands for, 0 if the plan is accepted, as a listing knows it: said case by case, so
+    // that it can be held against the pages.
     pub fn number(self) -> u32
         ensures { result ≡ (told self).number }
     {

@@ -118,7 +118,7 @@ pub fn first_fault(a: Option<Fault>, b: Option<Fault>) -> Option<Fault>
 }
 
 // A refusal: the fault, the line of the sheet that it stands on (0 without a sheet, and for the faults that are of no
-// line), and the number of the task that was judged, added or named (0 where there is none).
+// line), and the number of the task that was judged, added or named (0 where there is none): numbers, as listings print them.
 #[derive(Clone, Copy, PartialEq, Eq, Debug)]
 pub struct Refusal {
     pub fault: Fault,
@@ -127,7 +127,7 @@ pub struct Refusal {
 }
 
 impl Refusal {
-    // The refusal of a call that is about no line and no task.
+    // The refusal of a call that is about no line and no task, where no `?` makes it of a fault.
     pub fn plain(fault: Fault) -> Refusal
         ensures fault { result.fault ≡ fault }
         ensures line { result.line ≡ 0 }

@@ -66,6 +66,7 @@ fn sheet_length(input: &[u8]) -> usize
 fn calls_of(heap: Global, text: &[u8]) -> Result<Vec<Call>, CallsError> {
     let mut calls = Vec::new(heap);
     let mut rest = text;
+    // lines come off the rest one by one: nothing is counted here
     while !rest.is_empty() {
         let (line, after) = first_line(rest).ok_or(CallsError::BadLine(calls.len()))?;
         let call = call_of(line).ok_or(CallsError::BadLine(calls.len()))?;

@@ -11,7 +11,7 @@ pub const MOST_BACKLOG: u64 = 1_000_000;
 
 // The job of a task: the units left of it, and its age in ticks. With no units left, no job is pending; an `Option` beside
 // the units would say that in two ways.
-#[derive(Clone, Copy)]
+#[derive(Clone, Copy, Default)]
 pub struct Job {
     pub left: u64,
     pub age: u32,
@@ -25,7 +25,7 @@ impl Job {
         if self.left > 0 {
             self.age = self.age.saturating_add(1);
         } else {
-            self.age = 0;
+            *self = Job::default();
         }
     }
 }

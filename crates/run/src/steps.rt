@@ -1,5 +1,5 @@
 // What each call makes of the state of a run.
-ghost use Rattle.std.specs.Prelude.{◌≡◌, ◌+◌, ◌^◌, ◌<◌, ◌≤◌, length, nat_le};
+ghost use Rattle.std.specs.Prelude.{◌≡◌, ◌+◌, ◌^◌, ◌<◌, ◌≤◌, Bool, length, nat_le};
 ghost use Rattle.std.specs.List.{sum, position};
 ghost use Rattle.std.specs.Option.{ForSome};
 ghost use Rattle.run.specs.States.{at_start, backlog_of, left_of, holds, first_backlog, first_pending};
@@ -8,18 +8,36 @@ ghost use Rattle.run.specs.Steps.{grown, released, granted, let_go, ended, forem
 use crate::state::{Hold, Job, State};
 use calls::Got;
 
-// The place of the first backlog with units.
-fn first_waiting(backlogs: &[u64]) -> Option<usize>
-    ensures { result ≡ position (λ units. nat_le 1 units) backlogs.now }
-{
-    backlogs.iter().position(|units| *units > 0)
+// What may wait for the processor: a backlog, and a job.
+trait Waits: Copy {
+    ghost waits: { Self → Bool };
+
+    // Whether units of it are left.
+    fn waits(&self) -> bool
+        ensures { result ≡ waits self.now };
 }
 
-// The place of the first job that is pending.
-fn first_left(jobs: &[Job]) -> Option<usize>
-    ensures { result ≡ position (λ job. nat_le 1 job.left) jobs.now }
+impl Waits for u64 {
+    ghost waits = { λ units. nat_le 1 units };
+
+    fn waits(&self) -> bool {
+        *self > 0
+    }
+}
+
+impl Waits for Job {
+    ghost waits = { λ job. nat_le 1 job.left };
+
+    fn waits(&self) -> bool {
+        self.left > 0
+    }
+}
+
+// The place of the first that waits.
+fn first<T: Waits>(items: &[T]) -> Option<usize>
+    ensures { result ≡ position T.waits items.now }
 {
-    jobs.iter().position(|job| job.left > 0)
+    items.iter().position(|item| item.waits())
 }
 
 // A state has no invariants, since the definitions of what a call makes write states down and would owe a proof for each; so each
@@ -29,10 +47,9 @@ impl State {
     pub(crate) fn at_start() -> State
         ensures { result ≡ at_start }
     {
-        let job = Job { left: 0, age: 0 };
         State {
             backlogs: [0; 16],
-            jobs: [job; 16],
+            jobs: [Job::default(); 16],
             hold: None,
         }
     }
@@ -50,7 +67,7 @@ impl State {
         requires { parts ≤ length self.now.backlogs }
         ensures { result ≡ first_backlog self.now.backlogs parts }
     {
-        let place = first_waiting(&self.backlogs[..parts as usize])?;
+        let place = first(&self.backlogs[..parts as usize])?;
         Some(place as u32 + 1)
     }
 
@@ -59,7 +76,7 @@ impl State {
         requires { tasks ≤ length self.now.jobs }
         ensures { result ≡ first_pending self.now.jobs tasks }
     {
-        let place = first_left(&self.jobs[..tasks as usize])?;
+        let place = first(&self.jobs[..tasks as usize])?;
         Some(place as u32 + 1)
     }
 
@@ -121,7 +138,7 @@ impl State {
         requires last { task ≤ length self.old.jobs }
         ensures { self.new ≡ ended self.old task }
     {
-        self.jobs[(task - 1) as usize] = Job { left: 0, age: 0 };
+        self.jobs[(task - 1) as usize] = Job::default();
         if self.is_held_by(task) {
             self.hold = None;
         }

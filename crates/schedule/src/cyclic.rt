@@ -48,10 +48,7 @@ impl Schedule {
         if cycle < 1 || cycle > LONGEST {
             return Err(Refusal::plain(Fault::OutOfRange));
         }
-        let slots = [Slot {
-            offset: 0,
-            length: 0,
-        }; 64];
+        let slots = [Slot::default(); 64];
         Ok(Schedule {
             cycle,
             count: 0,

@@ -5,7 +5,7 @@ ghost use Rattle.schedule.specs.Phases.{offset_of, length_of, length_at, lengths
 ghost use Rattle.schedule.specs.Twice.{offset_twice, units_twice};
 
 // A pair: from `offset` on in each cycle, work of `length` units.
-#[derive(Clone, Copy)]
+#[derive(Clone, Copy, Default)]
 pub struct Slot {
     pub offset: u32,
     pub length: u32,

@@ -33,7 +33,7 @@ fn begun(line: Line) -> Result<Draft, Refusal>
     first(line).map_err(|refusal| refusal.on_line(line.number))
 }
 
-// What a later line makes of the draft, in place.
+// What a later line makes of the draft, in place: other than the first line, which makes the draft.
 fn next(draft: &mut Draft, line: Line) -> Result<(), Refusal>
     ensures { MatchResult result (λ _. next_row (Some (view draft.old)) (row_told (read_line line.entry.bytes.now)) ≡ Ok (view draft.new)) (λ e. next_row (Some (view draft.old)) (row_told (read_line line.entry.bytes.now)) ≡ Err e) }
 {

@@ -47,7 +47,7 @@ pub trait Gate: Source {
     ghost ticks: { Self → Self → Type 0 };
 
     // Offers units to a part. They are taken, and the answer is true, exactly when there is such a part and they are
-    // from 1 to its allowance for one tick; else nothing changes.
+    // from 1 to its allowance for one tick; else nothing changes. A bool: whoever drives a gate knows why it refuses.
     fn offer(&mut self, part: u32, units: u64) -> bool
         ensures answer { result ≡ offerable (Self.Source.parts self.old) (Self.Source.allowed self.old) part units }
         ensures refused { result ≡ false → self.new ≡ self.old }
@@ -64,7 +64,8 @@ pub trait Gate: Source {
     ghost driven: { Driven Self.Source.parts Self.Source.demanded Self.Source.allowed takes ticks };
 }
 
-// Offers a part all that it may bring in this tick, and says how much that was: 0 for a number that is no part.
+// Offers a part all that it may bring in this tick, and says how much that was: a count of units, 0 also for a number that is no
+// part.
 pub fn offer_all<G: Gate>(bank: &mut G, part: u32) -> u64
     ensures units { result ≡ G.Source.allowed bank.old part 1 }
     ensures refused { result ≡ 0 → bank.new ≡ bank.old }

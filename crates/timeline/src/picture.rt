@@ -27,6 +27,7 @@ pub fn draw(heap: Global, parts: u32, tasks: u32, log: &Log) -> Result<Vec<u8>, 
 {
     let mut text = Vec::new(heap);
     add_line(&mut text, "tick", &ruler(heap, log)?)?;
+    // parts and tasks by number: each kind has a label and a row of its own
     for part in 1..=parts {
         let label = format!(in heap; "part {part}")?;
         let row = part_row(heap, part, log)?;

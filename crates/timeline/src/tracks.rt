@@ -1,4 +1,5 @@
-// What a row is read off by: what is known between two calls of a log, and what stands in the row for a tick.
+// What a row is read off by: what is known between two calls of a log, and what stands in the row for a tick. Each is told case by
+// case, as the page on the timeline tells it.
 ghost use Rattle.std.specs.Prelude.{◌≡◌, ℕ, ◌^◌, ◌<◌, ◌++◌, ◌∷◌, [], List, length, cond};
 ghost use Rattle.calls.specs.Events.{Event, part_units};
 ghost use Rattle.calls.specs.Jobs.{job_of};

@@ -18,7 +18,7 @@ enum Verb {
     Tick,
 }
 
-// The keyword that a word is.
+// The keyword that a word is, by patterns: a rule of the project.
 fn verb_of(word: &[u8]) -> Option<Verb>
     ensures { result ≡ verb_of word.now }
 {
@@ -33,7 +33,8 @@ fn verb_of(word: &[u8]) -> Option<Verb>
     }
 }
 
-// The number after the space with which the rest of a line begins, and what follows it.
+// The number after the space with which the rest of a line begins, and what follows it. The reader of a sheet's line does the same with
+// words that have a line and a place, which these have not.
 fn number(rest: &[u8]) -> Option<(u32, &[u8])>
     ensures { MatchOption result (front rest.now ≡ None) (λ p. (front rest.now ≡ Some p.0) × (p.1.now ≡ behind rest.now)) }
 {

@@ -12,6 +12,7 @@ pub enum Class {
     Foreign,
 }
 
+// The kind of a byte, by cases of its character: a rule of the project.
 pub fn class_of(byte: u8) -> Class
     ensures { result ≡ class_of byte }
 {

@@ -67,6 +67,7 @@ pub fn check_line(line: Line) -> Result<(), Fault>
         return Err(Fault::ForeignByte);
     }
     let mut rest = line.bytes;
+    // words come off the rest one by one: nothing is counted here
     loop {
         let (_, after) = next_token(line, rest)?;
         let Some((_, words)) = after.split_first() else {
