@@ -72,6 +72,7 @@ impl Source for Reserve {
         if ticks > LONGEST {
             return None;
         }
+        // a match: the two stores are fields, not places of a list
         match part {
             1 => Some(over(self.first.size, ticks)),
             2 => Some(over(self.second.size, ticks)),
@@ -102,6 +103,7 @@ impl Gate for Reserve {
         if units < 1 {
             return false;
         }
+        // case by case, as the relation that it keeps to says it
         match part {
             1 => {
                 if units > u64::from(self.first.left) {
@@ -136,6 +138,7 @@ impl Even {
     pub fn new(parts: u32) -> Option<Even>
         ensures { MatchOption result (1000 < parts) (λ e. (parts ≤ 1000) × (e.parts ≡ parts)) }
     {
+        // no `then`: what the test says has to be known where the value is made
         if parts > MOST_PARTS {
             return None;
         }

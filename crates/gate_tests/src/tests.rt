@@ -15,7 +15,7 @@ use source::{Gate, Source, offer_all};
 use std::process::Abort;
 use std::test::Fail;
 
-// Stands for the allowance of a number that is no part.
+// Stands for the allowance of a number that is no part, so that a row of figures stays one.
 const NO: u64 = 99;
 
 // Ticks pass, then units are offered to a part: whether they are taken, and what parts 1 to 4 may bring after.

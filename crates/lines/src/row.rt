@@ -48,7 +48,7 @@ pub enum Row {
 }
 
 impl Costs {
-    // No cost yet.
+    // No cost yet, as the definition has it of no numbers.
     pub(crate) fn none() -> Costs
         ensures { result ≡ costs_of [] }
     {

@@ -30,7 +30,7 @@ pub struct JudgedPlan<S> {
     ghost few: { bounds_told verdict ≤ 16 },
 }
 
-// What a judged plan consists of: without its invariants, so that it can be taken apart.
+// What a judged plan consists of, in fixed memory as there: without its invariants, so that it can be taken apart.
 #[derive(Drop)]
 pub struct Parts<S> {
     pub bank: S,

@@ -15,7 +15,7 @@ use source::{LONGEST, Source};
 
 // What a task has besides its paced part, each from 0 to 1,000,000: how long a lower task may block it, how long a job may
 // take from its release, and how long the task itself may hold the processor at a time. Pace and limits of a task are two
-// values, as its table keeps them: the paced parts of the tasks are a gate.
+// values, as its table keeps them: the paced parts of the tasks are a gate. Clauses name its three numbers as they name a pace's.
 #[derive(Clone, Copy, Default)]
 pub struct Limit {
     pub blocking: u32,

@@ -82,7 +82,8 @@ fn no_plan() -> Result<OpenPlan<Pair<Rack, Schedule>>, Refusal> {
     Ok(OpenPlan::new(Pair::new(Rack::new(), schedule)))
 }
 
-// Makes the calls on a run of the plan, and gives their answers.
+// Makes the calls on a run of the plan, and gives their answers. A plan is used up by that, so it travels beside the calls and not in
+// a value with them.
 fn answers_of(
     heap: Global,
     plan: OpenPlan<Pair<Rack, Schedule>>,
@@ -172,6 +173,7 @@ fn run(rt: &HostRuntime, view: View) -> anyhow::Result<()> {
 
 // What the arguments of the program ask for, if they are known.
 fn view_of(rt: &HostRuntime) -> io::Result<Option<View>> {
+    // a match: one kind of error is an answer here, and the others are errors
     let mut arguments = match env::args(rt) {
         Ok(arguments) => arguments,
         Err(error) if error.kind() == io::ErrorKind::InvalidData => return Ok(None),

@@ -128,7 +128,7 @@ impl<G: Source> Run<G> {
         check_range(task.into(), self.table.count().into(), Fault::NoSuchNumber)
     }
 
-    // Looks for what is wrong with a release.
+    // Looks for what is wrong with a release. Like the checks below it asks what all ask, and then its own question.
     fn check_release(&self, task: u32, units: u64) -> Result<(), Fault>
         ensures { MatchResult result (λ _. release_fault self.now.terms.parts self.now.table.count (allowances_of self.now.table.count (row_at self.now.table.rows) task 1) self.now.state.jobs task units ≡ None) (λ fault. release_fault self.now.terms.parts self.now.table.count (allowances_of self.now.table.count (row_at self.now.table.rows) task 1) self.now.state.jobs task units ≡ Some fault) }
     {
@@ -147,6 +147,7 @@ impl<G: Source> Run<G> {
         requires last { task ≤ self.now.table.count }
         ensures { result ≡ grantable self.now.table.count self.now.terms.limits self.now.state task units }
     {
+        // a test for each rule of a hold
         let place = (task - 1) as usize;
         let highest = self.state.first_pending(self.table.count());
         let longest = u64::from(self.terms.limits[place].hold);
@@ -226,6 +227,7 @@ impl<G: Gate> Run<G> {
         ensures kept { Kept self.old.table.count (demands_of self.old.table.count (row_at self.old.table.rows)) self.new.table.count (demands_of self.new.table.count (row_at self.new.table.rows)) }
         ensures fixed { self.new.terms ≡ self.old.terms }
     {
+        // the closure is said in each call, where the task is at hand
         self.check_release(task, units)
             .map_err(|fault| Refusal::new(fault, 0, task))?;
         give(&mut self.table, task, units);

@@ -3,7 +3,7 @@
 ghost use Rattle.std.specs.Prelude.{◌≡◌};
 ghost use Rattle.run.specs.Steps.{older};
 
-// How many places there are for parts, and for tasks.
+// How many places there are for parts, and for tasks: as many parts as a plan is judged with, and as many tasks as it takes.
 pub const PLACES: u32 = 16;
 
 // The most units that may wait in all backlogs together.

@@ -139,9 +139,7 @@ impl State {
         ensures { self.new ≡ ended self.old task }
     {
         self.jobs[(task - 1) as usize] = Job::default();
-        if self.is_held_by(task) {
-            self.hold = None;
-        }
+        self.hold = self.hold.filter(|hold| hold.task != task);
     }
 
     // The task that goes before the other tasks: the holder, else the highest with a pending job.
@@ -149,10 +147,8 @@ impl State {
         requires { tasks ≤ length self.now.jobs }
         ensures { result ≡ foremost tasks self.now }
     {
-        match self.hold {
-            Some(hold) => Some(hold.task),
-            None => self.first_pending(tasks),
-        }
+        let holder = self.hold.map(|hold| hold.task);
+        holder.or_else(|| self.first_pending(tasks))
     }
 
     // The age of the job of a task that gets a unit, this tick included, if the job ends with the unit.
@@ -243,11 +239,7 @@ impl State {
         requires { ForSome self.old.hold (λ h. (1 ≤ h.task) × (h.task ≤ length self.old.jobs)) }
         ensures { self.new ≡ settled self.old }
     {
-        if let Some(hold) = self.hold
-            && !self.goes_on(hold)
-        {
-            self.hold = None;
-        }
+        self.hold = self.hold.filter(|hold| self.goes_on(*hold));
     }
 
     // A tick in which that one gets the unit.

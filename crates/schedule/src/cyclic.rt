@@ -74,6 +74,7 @@ impl Schedule {
         if offset >= self.cycle {
             return Err(Refusal::plain(Fault::Misfit));
         }
+        // the last pair by its place, behind which the new one goes
         if self.count > 0 && offset <= self.slots[(self.count - 1) as usize].offset {
             return Err(Refusal::plain(Fault::Misfit));
         }
@@ -131,6 +132,7 @@ impl Schedule {
     }
 }
 
+// One part, as a paced part by itself is one: the two have this shape in common and no state.
 impl Source for Schedule {
     ghost use Rattle.schedule.specs.Seen.{view_of};
     ghost use Rattle.schedule.specs.Fits.{fits};

@@ -41,6 +41,7 @@ fn judged(finished: &Finished) -> Result<[u32; 16], Refusal>
     ensures { (v : Verdict) × (bounds : List ℕ) × JudgedPlan (view finished.now.draft) v bounds × Answered (record { plan = view finished.now.draft; lines = finished.now.lines }) v bounds result }
 {
     let draft = finished.draft;
+    // a plan of the draft, which is kept for the marks
     let bank = Pair::new(draft.rack, draft.schedule);
     let judged = OpenPlan::with_tasks(bank, draft.tasks).judge();
     outcome_on_line(finished, judged.verdict())?;

@@ -554,8 +554,8 @@ fn lent(rt: &impl Abort) -> Result<OpenPlan<Pair<Rack, Schedule>>, Fail> {
     Ok(plan)
 }
 
-// That a sheet is read into the lent plan with this answer, and how the plan is judged then: the verdict and the first bound,
-// 0 if there is none.
+// That a sheet is read into the lent plan with this answer, and how the plan is judged then: the verdict and the first of a list of
+// bounds, which stays 0 if there is none.
 fn reads(
     rt: &impl Abort,
     sheet: &[u8],
