@@ -19,7 +19,8 @@ pub struct Store {
 // How many stores a reserve has.
 pub const STORES: u32 = 2;
 
-// A gate of two parts, each a store that is never filled up again.
+// A gate of two parts, each a store that is never filled up again. Two fields and no array: what an offer makes is told of each store by
+// itself.
 #[derive(Clone, Copy)]
 pub struct Reserve {
     first: Store,
@@ -72,7 +73,6 @@ impl Source for Reserve {
         if ticks > LONGEST {
             return None;
         }
-        // a match: the two stores are fields, not places of a list
         match part {
             1 => Some(over(self.first.size, ticks)),
             2 => Some(over(self.second.size, ticks)),
@@ -103,7 +103,6 @@ impl Gate for Reserve {
         if units < 1 {
             return false;
         }
-        // case by case, as the relation that it keeps to says it
         match part {
             1 => {
                 if units > u64::from(self.first.left) {
@@ -138,7 +137,7 @@ impl Even {
     pub fn new(parts: u32) -> Option<Even>
         ensures { MatchOption result (1000 < parts) (λ e. (parts ≤ 1000) × (e.parts ≡ parts)) }
     {
-        // no `then`: what the test says has to be known where the value is made
+        // tried as `then`: its closure knows nothing of the test, and the fact in the type is not found there
         if parts > MOST_PARTS {
             return None;
         }

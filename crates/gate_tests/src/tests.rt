@@ -89,6 +89,7 @@ fn number<T: Drop>(made: Result<T, Refusal>) -> u32 {
     }
 }
 
+// As in the tests of plans: a crate of tests lends nothing to another.
 fn pace(period: u32, jitter: u32, costs: &[u32]) -> Pace<'_> {
     Pace {
         period,

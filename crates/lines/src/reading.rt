@@ -48,7 +48,7 @@ impl<'a> Reader<'a> {
     fn costs(&mut self) -> Option<Costs>
         ensures { result ≡ costs_said (numbers_after self.old.rest.now) }
     {
-        let mut costs = Costs::none();
+        let mut costs = Costs::default();
         // costs come off the rest one by one: nothing is counted here
         while !self.rest.is_empty() {
             let cost = self.number()?;

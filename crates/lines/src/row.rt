@@ -16,7 +16,7 @@ pub const KEPT: usize = 9;
 
 // The first nine costs of a line, with 0 after the last. The project wants fixed memory here, and no heap: so the table has a count
 // beside it and is no `Vec`, and a row is copied.
-#[derive(Clone, Copy)]
+#[derive(Clone, Copy, Default)]
 pub struct Costs {
     pub numbers: [u32; 9],
     pub count: usize,
@@ -48,16 +48,6 @@ pub enum Row {
 }
 
 impl Costs {
-    // No cost yet, as the definition has it of no numbers.
-    pub(crate) fn none() -> Costs
-        ensures { result ≡ costs_of [] }
-    {
-        Costs {
-            numbers: [0; 9],
-            count: 0,
-        }
-    }
-
     // One cost more, if there is a place for it.
     pub(crate) fn push(&mut self, cost: u32)
         ensures { self.new ≡ (if ltb self.old.count 9 then (record { numbers = slice_set self.old.numbers self.old.count cost; count = self.old.count + 1 }) else self.old) }

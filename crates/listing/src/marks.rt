@@ -73,7 +73,7 @@ impl Marks {
         &self.tasks[..self.task_count as usize]
     }
 
-    // One part more behind the others, or false if there is no room.
+    // One part more behind the others, or false if there is no room: a bool, as at `push`.
     pub fn add_part(&mut self, load: u64) -> bool
         ensures answer { result ≡ nat_lt self.old.part_count 9 }
         ensures added { result ≡ true → (self.new.parts ≡ slice_set self.old.parts self.old.part_count load) × (self.new.part_count ≡ self.old.part_count + 1) }
@@ -83,7 +83,7 @@ impl Marks {
         push(&mut self.parts, &mut self.part_count, load)
     }
 
-    // One task more behind the others, or false if there is no room.
+    // One task more behind the others, or false if there is no room: a bool, as at `push`.
     pub fn add_task(&mut self, mark: TaskMark) -> bool
         ensures answer { result ≡ nat_lt self.old.task_count 16 }
         ensures added { result ≡ true → (self.new.tasks ≡ slice_set self.old.tasks self.old.task_count mark) × (self.new.task_count ≡ self.old.task_count + 1) }

@@ -25,6 +25,8 @@ pub struct Pace<'a> {
 
 // A paced part: an arrival at most every `period` ticks, each offered up to `jitter` ticks late, for the costs
 // 0 to `count` - 1 in turn. `level` is how far the offers are ahead of the pace, `place` that of the next cost.
+// It is plain: an unused place of a table is a row of zeros, which is not fit, so the methods ask for a fit row, and a table knows its rows
+// in use to be.
 #[derive(Clone, Copy, Default)]
 pub struct Row {
     pub period: u32,
@@ -160,11 +162,8 @@ impl Row {
         ensures fit { IfOk result (λ row. Fit row) }
         ensures made { MatchResult result (λ row. (fault_of pace.entry.period pace.entry.jitter pace.entry.costs.now ≡ None) × (row ≡ fresh pace.entry.period pace.entry.jitter pace.entry.costs.now)) (λ fault. fault_of pace.entry.period pace.entry.jitter pace.entry.costs.now ≡ Some fault) }
     {
-        // a match: only of a pace without a fault there is a row
-        match pace.fault() {
-            Some(fault) => Err(fault),
-            None => Ok(pace.fresh_row()),
-        }
+        pace.fault().map_or(Ok(()), Err)?;
+        Ok(pace.fresh_row())
     }
 
     // The largest cost.

@@ -29,6 +29,8 @@ impl Paced {
     }
 }
 
+// A schedule answers alike as the one part 1: a trait of one part would carry the laws of a source and a gate once more, which is more
+// than these lines.
 impl Source for Paced {
     ghost parts = { λ _. 1 };
 

@@ -1,4 +1,5 @@
-// The search for the smallest window that holds what a task needs.
+// The search for the smallest window that holds what a task needs. Each function asks for its place and for the count of parts: the judge
+// has tested both, and a type for a place would have to be tied to its plan.
 ghost use Rattle.std.specs.Prelude.{◌≡◌, ◌+◌, ◌^◌, ◌<◌, ◌≤◌};
 ghost use Rattle.plan.specs.Limits.{limit_at};
 ghost use Rattle.plan.specs.Needs.{total, needed, Searched};

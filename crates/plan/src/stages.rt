@@ -18,7 +18,7 @@ pub struct OpenPlan<S> {
     pub(crate) tasks: Tasks,
 }
 
-// A plan with its verdict and, if it is accepted, the bound of each task.
+// A plan with its verdict and, if it is accepted, the bound of each task: the two that clauses name, and no finding of the judge's.
 #[derive(Drop)]
 pub struct JudgedPlan<S> {
     bank: S,

@@ -9,6 +9,7 @@ use source::Source;
 use source::pair::Pair;
 use std::test::Fail;
 
+// As in the tests of gates: a crate of tests lends nothing to another.
 fn pace(period: u32, jitter: u32, costs: &[u32]) -> Pace<'_> {
     Pace {
         period,

@@ -118,7 +118,8 @@ pub fn first_fault(a: Option<Fault>, b: Option<Fault>) -> Option<Fault>
 }
 
 // A refusal: the fault, the line of the sheet that it stands on (0 without a sheet, and for the faults that are of no
-// line), and the number of the task that was judged, added or named (0 where there is none): numbers, as listings print them.
+// line), and the number of the task that was judged, added or named (0 where there is none): numbers, since a listing
+// prints the line as it is, and the line of an answer both.
 #[derive(Clone, Copy, PartialEq, Eq, Debug)]
 pub struct Refusal {
     pub fault: Fault,

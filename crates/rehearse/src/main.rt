@@ -82,8 +82,8 @@ fn no_plan() -> Result<OpenPlan<Pair<Rack, Schedule>>, Refusal> {
     Ok(OpenPlan::new(Pair::new(Rack::new(), schedule)))
 }
 
-// Makes the calls on a run of the plan, and gives their answers. A plan is used up by that, so it travels beside the calls and not in
-// a value with them.
+// Makes the calls on a run of the plan, and gives their answers. Plan and calls travel as two values: each of the three
+// functions would take a struct of them apart at once.
 fn answers_of(
     heap: Global,
     plan: OpenPlan<Pair<Rack, Schedule>>,

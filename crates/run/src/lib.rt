@@ -37,7 +37,8 @@ pub struct Terms {
     ghost few: { ForSome parts (λ n. n ≤ 16) },
 }
 
-// A run: the bank, the paced parts of the tasks, the state, and what is fixed from the start.
+// A run: the bank, the paced parts of the tasks, the state, and what is fixed from the start. Deadlines and holds are as in a plan's
+// tasks; a running table is not at rest, so table and limits are no such tasks.
 #[derive(Drop)]
 pub struct Run<G> {
     bank: G,

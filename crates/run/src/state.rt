@@ -9,8 +9,8 @@ pub const PLACES: u32 = 16;
 // The most units that may wait in all backlogs together.
 pub const MOST_BACKLOG: u64 = 1_000_000;
 
-// The job of a task: the units left of it, and its age in ticks. With no units left, no job is pending; an `Option` beside
-// the units would say that in two ways.
+// The job of a task: the units left of it, and its age in ticks. With no units left no job is pending: the rules ask for the units left of
+// any task, 0 where there is no job, and a row in fixed memory has them without being taken apart.
 #[derive(Clone, Copy, Default)]
 pub struct Job {
     pub left: u64,

@@ -2,7 +2,7 @@
 ghost use Rattle.std.specs.Prelude.{◌≡◌, ◌+◌, ◌^◌, ◌<◌, ◌≤◌, Bool, length, nat_le};
 ghost use Rattle.std.specs.List.{sum, position};
 ghost use Rattle.std.specs.Option.{ForSome};
-ghost use Rattle.run.specs.States.{at_start, backlog_of, left_of, holds, first_backlog, first_pending};
+ghost use Rattle.run.specs.States.{at_start, backlog_of, left_of, holds, first_at, first_backlog, first_pending};
 ghost use Rattle.run.specs.Steps.{grown, released, granted, let_go, ended, foremost, told_age, due, part_served, task_served, served, aged, goes_on, settled, passed, Placed};
 
 use crate::state::{Hold, Job, State};
@@ -34,16 +34,25 @@ impl Waits for Job {
 }
 
 // The place of the first that waits.
-fn first<T: Waits>(items: &[T]) -> Option<usize>
+fn place_of_first<T: Waits>(items: &[T]) -> Option<usize>
     ensures { result ≡ position T.waits items.now }
 {
     items.iter().position(|item| item.waits())
 }
 
+// The number of the first that waits, of some.
+fn first<T: Waits>(items: &[T], count: u32) -> Option<u32>
+    requires { count ≤ length items.now }
+    ensures { result ≡ first_at T.waits items.now count }
+{
+    let place = place_of_first(&items[..count as usize])?;
+    Some(place as u32 + 1)
+}
+
 // A state has no invariants, since the definitions of what a call makes write states down and would owe a proof for each; so each
 // method asks for the places that it goes to.
 impl State {
-    // The state of a run at its start.
+    // The state of a run at its start, written out as its definition is.
     pub(crate) fn at_start() -> State
         ensures { result ≡ at_start }
     {
@@ -67,8 +76,7 @@ impl State {
         requires { parts ≤ length self.now.backlogs }
         ensures { result ≡ first_backlog self.now.backlogs parts }
     {
-        let place = first(&self.backlogs[..parts as usize])?;
-        Some(place as u32 + 1)
+        first(&self.backlogs, parts)
     }
 
     // The number of the first task with a pending job, of some tasks.
@@ -76,8 +84,7 @@ impl State {
         requires { tasks ≤ length self.now.jobs }
         ensures { result ≡ first_pending self.now.jobs tasks }
     {
-        let place = first(&self.jobs[..tasks as usize])?;
-        Some(place as u32 + 1)
+        first(&self.jobs, tasks)
     }
 
     // The units left of the job of a task.

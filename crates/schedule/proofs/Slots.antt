@@ -1,9 +1,11 @@
 -- Pairs in a list.
-use Rattle.std.proofs.Common.{◌≡◌, ℕ, zero, suc, ◌+◌, ◌-◌, ◌*◌, ◌<◌, ◌≤◌, eqb, ltb, List, length, get_or, set, replicate, sym, refl, ap, ◌∙◌, subst, inl, inr, arith, get_or-set_other, get_or-set_same}
+use Rattle.std.proofs.Common.{◌≡◌, ℕ, true, zero, suc, ◌+◌, ◌-◌, ◌*◌, ◌<◌, ◌≤◌, eqb, ltb, List, length, get_or, set, replicate, sym, refl, ap, ◌∙◌, subst, inl, inr, arith, get_or-set_other, get_or-set_same}
 use Rattle.std.proofs.lemmas.Bool.{cond_both, cases_eq}
+use Rattle.std.proofs.lemmas.Bool.Decides.{nat_tests}
 use Rattle.cycles.specs.Round.{sum, top}
 use Rattle.cycles.proofs.Rounds.{sum_least, sum_on, sum_same}
 use Rattle.schedule.specs.Windows.{from_pair, window_end, pairs_suffice}
+use Rattle.schedule.specs.Makes.{follows}
 use Rattle.schedule.specs.Phases.{none, offset_of, length_of, if_at, lengths_met}
 use Rattle.schedule.specs.Twice.{offset_twice, units_twice, met_from}
 use Rattle.schedule.specs.declared.slot.Slot.{Slot}
@@ -45,6 +47,10 @@ if_at_small slots p i h = cond_both (eqb (offset_of slots i) p) (length_of slots
 
 pub found_small : (slots : List Slot) (p i : ℕ) → ((i : ℕ) → length_of slots i ≤ 1000000) → sum (if_at slots p) i ≤ i * 1000000
 found_small slots p i h = sum_least (if_at slots p) i 1000000 (λ j _. if_at_small slots p j h)
+
+-- an offset that follows the pairs
+pub follows_both : (c n : ℕ) (slots : List Slot) (o : ℕ) → follows c n slots o ≡ true → (o < c) × (0 < n → offset_of slots (n - 1) < o)
+follows_both c n slots o e = (grind (arith, nat_tests), λ some. grind (arith, nat_tests))
 
 -- one pair more, s, behind the first n
 module _ (slots : List Slot) (n : ℕ) (s : Slot) (room : n < length slots) where

@@ -3,7 +3,7 @@ ghost use Rattle.std.specs.Prelude.{◌≡◌, ℕ, ◌+◌, ◌-◌, ◌*◌, �
 ghost use Rattle.cycles.specs.Round.{sum, next};
 ghost use Rattle.loads.specs.Share.{load_of};
 ghost use Rattle.source.specs.Facts.{is_part, single, offerable, Sound, Kept, Taken, Ticked, Driven};
-ghost use Rattle.schedule.specs.Makes.{cycle_fault, pair_fault};
+ghost use Rattle.schedule.specs.Makes.{cycle_fault, follows, pair_fault};
 ghost use Rattle.schedule.specs.Phases.{none, offset_of, length_of, demand, allowance, later, Gives};
 ghost use Rattle.schedule.specs.Views.{view_sound, view_taken, view_ticked};
 
@@ -59,6 +59,14 @@ impl Schedule {
         })
     }
 
+    // Whether an offset lies below the cycle, and above that of the last pair.
+    fn follows(&self, offset: u32) -> bool
+        ensures { result ≡ follows self.now.cycle self.now.count self.now.slots offset }
+    {
+        let used = &self.slots[..self.count as usize];
+        offset < self.cycle && used.last().is_none_or(|last| last.offset < offset)
+    }
+
     // One pair more behind the others, or a refusal: a 65th pair; a length of 0 or a number above 1,000,000; an offset
     // that is not below the cycle or not above that of the last pair.
     #[tactic(auto, using(crate::proofs::Slots::sum_small))]
@@ -71,11 +79,7 @@ impl Schedule {
         if offset > LONGEST || length < 1 || length > LONGEST {
             return Err(Refusal::plain(Fault::OutOfRange));
         }
-        if offset >= self.cycle {
-            return Err(Refusal::plain(Fault::Misfit));
-        }
-        // the last pair by its place, behind which the new one goes
-        if self.count > 0 && offset <= self.slots[(self.count - 1) as usize].offset {
+        if !self.follows(offset) {
             return Err(Refusal::plain(Fault::Misfit));
         }
         let mut slots = self.slots;
@@ -132,7 +136,8 @@ impl Schedule {
     }
 }
 
-// One part, as a paced part by itself is one: the two have this shape in common and no state.
+// A paced part answers alike as the one part 1: a trait of one part would carry the laws of a source and a gate once more, which is more
+// than these lines.
 impl Source for Schedule {
     ghost use Rattle.schedule.specs.Seen.{view_of};
     ghost use Rattle.schedule.specs.Fits.{fits};

@@ -60,7 +60,7 @@ impl Draft {
         Ok(())
     }
 
-    // One task more. A draft has no bank yet, so it is no open plan that could add it.
+    // One task more. A table of tasks answers a fault without a number, so each that adds to one names the task.
     fn add_task(&mut self, pace: Pace, limit: Limit) -> Result<(), Refusal>
         ensures { MatchResult result (λ _. task_line (view self.old) pace.entry.period pace.entry.jitter limit.blocking limit.deadline limit.hold pace.entry.costs.now ≡ Ok (view self.new)) (λ e. task_line (view self.old) pace.entry.period pace.entry.jitter limit.blocking limit.deadline limit.hold pace.entry.costs.now ≡ Err e) }
     {

@@ -30,6 +30,7 @@ fn lists(rt: &impl Abort, sheet: &[u8], want: &[u8]) -> Result<(), Fail> {
 // That each sheet is refused with this number and line.
 fn all_refused(rt: &impl Abort, heap: Global, cases: &[(u32, u32, &str)]) -> Result<(), Fail> {
     for (number, line, sheet) in cases {
+        // by number, as the pages have them: a test asks the code for no layer
         let layer = match *number {
             1..=3 => "words",
             4 => "lines",

@@ -5,7 +5,8 @@ ghost use Rattle.calls.specs.Events.{Event, log_of};
 use calls::{Answer, Call};
 use std::marker::Model;
 
-// The calls of a run and the answers to them, one with the other by their places, up to the end of the shorter list.
+// The calls of a run and the answers to them, one with the other by their places, up to the end of the shorter list: two
+// lists and no list of pairs, since the answers of a rehearsal are written into a list that the caller lends beside its calls.
 #[derive(Drop)]
 pub struct Log<'a> {
     pub(crate) calls: &'a [Call],

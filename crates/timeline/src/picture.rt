@@ -13,6 +13,7 @@ const LABEL: usize = 8;
 fn add_line(text: &mut Vec<u8>, label: &str, row: &[u8]) -> Result<(), AllocError>
     ensures { OnOk result (text.new.items ≡ text.old.items ++ line label.now row.now) }
 {
+    // blanks by hand: a format with a width would make a text of its own, to be copied into this one
     let blanks = LABEL.saturating_sub(label.len());
     text.extend_from_slice(label.as_bytes())?;
     text.extend_from_slice(&[b' '; LABEL][..blanks])?;
