@@ -1,3 +1,3 @@
 pub mod Cells
 pub mod Laws
-mod Lines
+pub mod Lines

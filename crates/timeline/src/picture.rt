@@ -1,25 +1,37 @@
 // The lines of a timeline.
-ghost use Rattle.std.specs.Prelude.{◌≡◌, ◌++◌, IfOk, OnOk};
-ghost use Rattle.timeline.specs.Pictures.{line, timeline};
+ghost use Rattle.std.specs.Prelude.{◌≡◌, [], ◌∷◌, ◌++◌, IfOk, OnOk};
+ghost use Rattle.timeline.specs.Pictures.{part_line, task_line, timeline};
 
 use crate::log::Log;
 use crate::rows::{part_row, ruler, task_row};
 use std::alloc::{AllocError, Global};
 
-// How many columns a label has.
-const LABEL: usize = 8;
-
-// Adds a line with that label and row.
+// Adds a line: a label of 8 columns, and a row.
 fn add_line(text: &mut Vec<u8>, label: &str, row: &[u8]) -> Result<(), AllocError>
-    ensures { OnOk result (text.new.items ≡ text.old.items ++ line label.now row.now) }
+    ensures { OnOk result (text.new.items ≡ text.old.items ++ (label.now ++ (row.now ++ (10 ∷ [])))) }
 {
-    // blanks by hand: a format with a width would make a text of its own, to be copied into this one
-    let blanks = LABEL.saturating_sub(label.len());
     text.extend_from_slice(label.as_bytes())?;
-    text.extend_from_slice(&[b' '; LABEL][..blanks])?;
     text.extend_from_slice(row)?;
     text.push(b'\n')?;
     Ok(())
+}
+
+// Adds the line of a part.
+#[tactic(auto, using(crate::proofs::Lines::in_columns))]
+fn add_part(heap: Global, text: &mut Vec<u8>, part: u32, log: &Log) -> Result<(), AllocError>
+    ensures { OnOk result (text.new.items ≡ text.old.items ++ part_line log.now part) }
+{
+    let label = format!(in heap; "part {part:<3}")?;
+    add_line(text, &label, &part_row(heap, part, log)?)
+}
+
+// Adds the line of a task. One function for both would take the label and the row that it makes from its caller, and leave nothing to say.
+#[tactic(auto, using(crate::proofs::Lines::in_columns))]
+fn add_task(heap: Global, text: &mut Vec<u8>, task: u32, log: &Log) -> Result<(), AllocError>
+    ensures { OnOk result (text.new.items ≡ text.old.items ++ task_line log.now task) }
+{
+    let label = format!(in heap; "task {task:<3}")?;
+    add_line(text, &label, &task_row(heap, task, log)?)
 }
 
 // The timeline of a run with so many parts and tasks, as lines of text.
@@ -27,17 +39,12 @@ pub fn draw(heap: Global, parts: u32, tasks: u32, log: &Log) -> Result<Vec<u8>, 
     ensures { IfOk result (λ text. text.items ≡ timeline parts tasks log.now) }
 {
     let mut text = Vec::new(heap);
-    add_line(&mut text, "tick", &ruler(heap, log)?)?;
-    // parts and tasks by number: each kind has a label and a row of its own
+    add_line(&mut text, "tick    ", &ruler(heap, log)?)?;
     for part in 1..=parts {
-        let label = format!(in heap; "part {part}")?;
-        let row = part_row(heap, part, log)?;
-        add_line(&mut text, &label, &row)?;
+        add_part(heap, &mut text, part, log)?;
     }
     for task in 1..=tasks {
-        let label = format!(in heap; "task {task}")?;
-        let row = task_row(heap, task, log)?;
-        add_line(&mut text, &label, &row)?;
+        add_task(heap, &mut text, task, log)?;
     }
     Ok(text)
 }

@@ -5,13 +5,13 @@ use Rattle.timeline.proofs.picture.draw.Given as goal
 -- the text has the ruler and the lines of the parts so far
 abbrev pub invariant-loop-part : goal.invariant-loop-part
 invariant-loop-part l = record {
-  lines : l.text.items ≡ ruler_line l.log ++ lines (part_line l.log) (l.part-counter - 1);
-  few : l.part-counter ≤ l.parts + 1;
+  lines : l.text.items ≡ ruler_line l.log ++ lines (part_line l.log) (l.part - 1);
+  few : l.part ≤ l.parts + 1;
 }
 
 -- and those of the tasks so far
 abbrev pub invariant-loop-task : goal.invariant-loop-task
 invariant-loop-task l = record {
-  lines : l.text.items ≡ l.initial.text.items ++ lines (task_line l.log) (l.task-counter - 1);
-  few : l.task-counter ≤ l.tasks + 1;
+  lines : l.text.items ≡ l.initial.text.items ++ lines (task_line l.log) (l.task - 1);
+  few : l.task ≤ l.tasks + 1;
 }
