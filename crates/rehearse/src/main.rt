@@ -82,50 +82,48 @@ fn no_plan() -> Result<OpenPlan<Pair<Rack, Schedule>>, Refusal> {
     Ok(OpenPlan::new(Pair::new(Rack::new(), schedule)))
 }
 
-// Makes the calls on a run of the plan, and gives their answers. Plan and calls travel as two values: each of the three
-// functions would take a struct of them apart at once.
-fn answers_of(
-    heap: Global,
+// A plan, and the calls that are to be made on a run of it.
+#[derive(Drop)]
+struct Rehearsal<'a> {
     plan: OpenPlan<Pair<Rack, Schedule>>,
-    calls: &[Call],
-) -> Result<Vec<Answer>, AllocError> {
-    let mut answers = vec![in heap; Answer::Done; calls.len()]?;
-    let _ = rehearse(plan, calls, &mut answers);
-    Ok(answers)
+    calls: &'a [Call],
 }
 
-// Writes the line of each answer.
-fn print_answers(
-    rt: &HostRuntime,
-    plan: OpenPlan<Pair<Rack, Schedule>>,
-    calls: &[Call],
-) -> anyhow::Result<()> {
-    let answers = answers_of(rt.alloc(), plan, calls)?;
-    for answer in &answers {
-        println!(rt; "{}", Line(*answer))?;
+impl Rehearsal<'_> {
+    // The answers to the calls.
+    fn answers(self, heap: Global) -> Result<Vec<Answer>, AllocError> {
+        let mut answers = vec![in heap; Answer::Done; self.calls.len()]?;
+        let _ = rehearse(self.plan, self.calls, &mut answers);
+        Ok(answers)
     }
-    Ok(())
-}
 
-// Writes the timeline of the run, with a row for each part of the bank and each task of the plan.
-fn print_timeline(
-    rt: &HostRuntime,
-    plan: OpenPlan<Pair<Rack, Schedule>>,
-    calls: &[Call],
-) -> anyhow::Result<()> {
-    // an open plan does not tell its counts: it is judged for them, and opened again
-    let Parts { bank, tasks, .. } = plan.judge().into_parts();
-    let part_count = bank.count();
-    let task_count = tasks.count();
-    let answers = answers_of(rt.alloc(), OpenPlan::with_tasks(bank, tasks), calls)?;
-    let text = draw(
-        rt.alloc(),
-        part_count,
-        task_count,
-        &Log::new(calls, &answers),
-    )?;
-    rt.stdout().write_all(&text)?;
-    Ok(())
+    // Writes the line of each answer.
+    fn print_answers(self, rt: &HostRuntime) -> anyhow::Result<()> {
+        let answers = self.answers(rt.alloc())?;
+        for answer in &answers {
+            println!(rt; "{}", Line(*answer))?;
+        }
+        Ok(())
+    }
+
+    // Writes the timeline of the run, with a row for each part of the bank and each task of the plan.
+    fn print_timeline(self, rt: &HostRuntime) -> anyhow::Result<()> {
+        let Rehearsal { plan, calls } = self;
+        // an open plan does not tell its counts: it is judged for them, and opened again
+        let Parts { bank, tasks, .. } = plan.judge().into_parts();
+        let part_count = bank.count();
+        let task_count = tasks.count();
+        let plan = OpenPlan::with_tasks(bank, tasks);
+        let answers = Rehearsal { plan, calls }.answers(rt.alloc())?;
+        let text = draw(
+            rt.alloc(),
+            part_count,
+            task_count,
+            &Log::new(calls, &answers),
+        )?;
+        rt.stdout().write_all(&text)?;
+        Ok(())
+    }
 }
 
 // Rehearses what the input says.
@@ -144,10 +142,14 @@ fn print_rehearsal(rt: &HostRuntime, view: View, input: &[u8]) -> anyhow::Result
         return Ok(());
     }
     match calls_of(rt.alloc(), text) {
-        Ok(calls) => match view {
-            View::Answers => print_answers(rt, plan, &calls),
-            View::Timeline => print_timeline(rt, plan, &calls),
-        },
+        Ok(calls) => {
+            let calls = &calls;
+            let rehearsal = Rehearsal { plan, calls };
+            match view {
+                View::Answers => rehearsal.print_answers(rt),
+                View::Timeline => rehearsal.print_timeline(rt),
+            }
+        }
         Err(CallsError::BadLine(before)) => {
             let lines = sheet.iter().filter(|byte| **byte == b'\n').count();
             let line = lines.saturating_add(before).saturating_add(2);
