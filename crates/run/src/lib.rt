@@ -25,8 +25,8 @@ use plan::verdict::Verdict;
 use refusal::{Fault, Refusal};
 use source::{Gate, Source};
 
-// What a run keeps from its start on: the limits and bounds of the tasks, by place, in fixed memory as the project wants it;
-// and, if the plan is accepted, how many parts the bank has.
+// What a run keeps from its start on: the limits and bounds of the tasks, by place, in fixed memory as the project wants it and in two
+// arrays as a judged plan hands them over; and, if the plan is accepted, how many parts the bank has.
 #[derive(Clone, Copy)]
 pub struct Terms {
     limits: [Limit; 16],
@@ -38,7 +38,7 @@ pub struct Terms {
 }
 
 // A run: the bank, the paced parts of the tasks, the state, and what is fixed from the start. Deadlines and holds are as in a plan's
-// tasks; a running table is not at rest, so table and limits are no such tasks.
+// tasks; a running table is not at rest, so table and limits are no `Tasks`.
 #[derive(Drop)]
 pub struct Run<G> {
     bank: G,

@@ -10,7 +10,7 @@ pub const PLACES: u32 = 16;
 pub const MOST_BACKLOG: u64 = 1_000_000;
 
 // The job of a task: the units left of it, and its age in ticks. With no units left no job is pending: the rules ask for the units left of
-// any task, 0 where there is no job, and a row in fixed memory has them without being taken apart.
+// any task, 0 where there is no job, and a plain job has them without a match.
 #[derive(Clone, Copy, Default)]
 pub struct Job {
     pub left: u64,
@@ -39,7 +39,7 @@ pub struct Hold {
 
 // The backlog of each part and the job of each task, by place from 0, in fixed memory as the project wants it; and the hold, if
 // a task holds the processor. What a state keeps to stands at the run.
-#[derive(Clone, Copy)]
+#[derive(Clone, Copy, Default)]
 pub struct State {
     pub backlogs: [u64; 16],
     pub jobs: [Job; 16],

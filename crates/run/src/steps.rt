@@ -52,15 +52,11 @@ fn first<T: Waits>(items: &[T], count: u32) -> Option<u32>
 // A state has no invariants, since the definitions of what a call makes write states down and would owe a proof for each; so each
 // method asks for the places that it goes to.
 impl State {
-    // The state of a run at its start, written out as its definition is.
+    // The state of a run at its start: nothing waits, and nobody holds.
     pub(crate) fn at_start() -> State
         ensures { result ≡ at_start }
     {
-        State {
-            backlogs: [0; 16],
-            jobs: [Job::default(); 16],
-            hold: None,
-        }
+        State::default()
     }
 
     // The units in all backlogs.
