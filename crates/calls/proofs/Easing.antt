@@ -37,16 +37,9 @@ taken_at a a' f f' k u taken put j m h =
           grind (arith, nat_tests))
     ]
 
+-- of a function that is 0 before, it leaves that what is allowed falls
 taken_falls : (a a' : ℕ → ℕ → ℕ) (k u : ℕ) → Taken a k u a' → (j m : ℕ) → 1 ≤ m → a' j m ≤ a j m
-taken_falls a a' k u taken j m h =
-    elim (cases_eq j k) [
-      | inl e ↦ (
-          let w : u + a' k m ≤ a k m = taken.within m h in
-          let same : a' j m ≡ a' k m = ap (λ x. a' x m) e in
-          let same' : a j m ≡ a k m = ap (λ x. a x m) e in
-          omega arith)
-      | inr ne ↦ (let w : a' j m ≡ a j m = taken.others j m ne in omega arith)
-    ]
+taken_falls a a' k u taken j m h = omega (arith, taken_at a a' (λ _. 0) (λ j. cond (eqb j k) (0 + u) 0) k u taken (λ _. refl) j m h)
 
 pub eased_same : (p : Plan) (s t : State) → Sane p s → t ≡ s → Eased p s t
 eased_same p s t sane e = subst (λ x. Eased p s x) (sym e) (record {
@@ -70,19 +63,8 @@ eased_offered p s t k u sane h = subst (λ x. Eased p s x) (sym h.rest) (record 
 
 -- u units of a task whose job is not pending
 released_at : (a a' : ℕ → ℕ → ℕ) (f f' : ℕ → ℕ) (k u : ℕ) → f k ≡ 0 → Taken a k u a' → ((j : ℕ) → f' j ≡ cond (eqb j k) u (f j)) → (j m : ℕ) → 1 ≤ m → f' j + a' j m ≤ f j + a j m
-released_at a a' f f' k u none taken put j m h =
-    elim (cases_eq j k) [
-      | inl e ↦ (
-          let w : u + a' k m ≤ a k m = taken.within m h in
-          let same : a' j m ≡ a' k m = ap (λ x. a' x m) e in
-          let same' : a j m ≡ a k m = ap (λ x. a x m) e in
-          let new = put j in
-          grind (arith, nat_tests))
-      | inr ne ↦ (
-          let w : a' j m ≡ a j m = taken.others j m ne in
-          let new = put j in
-          grind (arith, nat_tests))
-    ]
+released_at a a' f f' k u none taken put =
+    taken_at a a' f f' k u taken (λ j. elim (cases_eq j k) [ inl e ↦ (let here : f j ≡ 0 = ap f e ∙ none in let new = put j in grind (arith, nat_tests)) | inr ne ↦ (let new = put j in grind (arith, nat_tests)) ])
 
 pub eased_released : (p : Plan) (s t : State) (i u : ℕ) → Sane p s → Released p s i u t → Eased p s t
 eased_released p s t i u sane h = subst (λ x. Eased p s x) (sym h.rest) (record {
