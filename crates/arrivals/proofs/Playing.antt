@@ -1,6 +1,6 @@
 -- What the loop over the steps keeps: the answers so far, and what the rest of the steps will make of the part.
 use Rattle.std.proofs.Common.{◌≡◌, ℕ, suc, ◌+◌, ◌<◌, ◌≤◌, min, Bool, false, List, [], ◌∷◌, ◌++◌, length, get_or, take, drop, set, sym, refl, ap, ◌∙◌, inl, inr, append_assoc, arith}
-use Rattle.std.proofs.lemmas.List.{append-nil, take_all, drop_all, drop_more, drop-set-lt, take_more_set, take-append-drop}
+use Rattle.std.proofs.lemmas.List.{append-nil, take_all, drop_all, drop_more, drop-set-lt, take_more_set, take-append-drop, get_or-take, length-take-le}
 use Rattle.std.proofs.lemmas.Bool.{cases_lt}
 use Rattle.paced.specs.declared.row.Row.{Row}
 use Rattle.arrivals.specs.declared.Step.{Step}
@@ -67,3 +67,28 @@ module _ (r : Row) (ss : List Step) (bs : List Bool) (i : ℕ) (over : min (leng
 
       no_places : length bs ≤ i → end_at r ss bs i ≡ r
       no_places h = ap (moved r (drop i ss)) (drop_all i bs h) ∙ no_move r (drop i ss)
+
+-- a loop over the first n steps makes the one at i
+module _ (r : Row) (ss : List Step) (n i : ℕ) (d : Step) (bs : List Bool) (left : i < length (take n ss)) (few : n ≤ length ss) (room : n ≤ length bs) where
+  cut : length (take n ss) ≡ n
+  cut = length-take-le n ss few
+
+  same : get_or ss i d ≡ get_or (take n ss) i d
+  same = sym (get_or-take n ss i d (omega (arith, cut)))
+
+  pub answers_on : answers_at (after r (get_or (take n ss) i d)) ss (set bs i (answer r (get_or (take n ss) i d))) (i + 1) ≡ answers_at r ss bs i
+  answers_on = sym (answers_more r ss bs i d (omega (arith, cut)) (omega (arith, cut)) ∙ (λ k. answers_at (after r (same k)) ss (set bs i (answer r (same k))) (i + 1)))
+
+  pub end_on : end_at (after r (get_or (take n ss) i d)) ss (set bs i (answer r (get_or (take n ss) i d))) (i + 1) ≡ end_at r ss bs i
+  end_on = sym (end_more r ss bs i d (omega (arith, cut)) (omega (arith, cut)) ∙ (λ k. end_at (after r (same k)) ss (set bs i (answer r (same k))) (i + 1)))
+
+-- where it ends
+module _ (r : Row) (ss : List Step) (bs : List Bool) (i n : ℕ) (least : n ≡ min (length ss) (length bs)) (done : length (take n ss) ≤ i) where
+  over : min (length ss) (length bs) ≤ i
+  over = omega (arith, length-take-le n ss (omega arith))
+
+  pub answers_end : answers_at r ss bs i ≡ bs
+  answers_end = answers_all r ss bs i over
+
+  pub end_end : end_at r ss bs i ≡ r
+  end_end = end_all r ss bs i over

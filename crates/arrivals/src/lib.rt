@@ -32,22 +32,33 @@ fn make(part: &mut Paced, step: Step) -> bool
     }
 }
 
+// Takes a part through the steps, as many as there is room for answers, and writes each answer. Crate `guarantee` has a
+// loop like it, `play` over the calls of a run: what a call makes is told by a relation, and what a step makes by a function.
+#[tactic(auto, using(crate::proofs::Playing::answers_on, crate::proofs::Playing::end_on, crate::proofs::Playing::answers_end, crate::proofs::Playing::end_end))]
+fn play(part: &mut Paced, steps: &[Step], taken: &mut [bool])
+    ensures answers { taken.new ≡ played part.old.row steps.now taken.old }
+    ensures end { part.new.row ≡ moved part.old.row steps.now taken.old }
+{
+    // a loop over an adapter of `iter_mut` tells a proof nothing of what it writes, so the answers go by place
+    let count = steps.len().min(taken.len());
+    for (place, step) in steps[..count].iter().enumerate() {
+        taken[place] = make(part, *step);
+    }
+}
+
 // Makes a part of that pace, or says why there is none, and takes it through the steps, as many as there is room
 // for answers. After each step it writes whether the step was taken. Answers beyond the steps are unchanged.
 //
 // An offer within the cost that is due is refused exactly when no arrival times explain it and the offers already taken:
 // arrivals are at least the period apart, the first may be before the start, and each offer comes after its own arrival
 // by at most the jitter.
+#[tactic(auto, using(crate::proofs::Following::played_answered))]
 pub fn replay(pace: Pace, steps: &[Step], taken: &mut [bool]) -> Result<Paced, Refusal>
     ensures refused { MatchResult result (λ _. fault_of pace.entry.period pace.entry.jitter pace.entry.costs.now ≡ None) (λ e. (fault_of pace.entry.period pace.entry.jitter pace.entry.costs.now ≡ Some e.fault) × (e.line ≡ 0) × (e.task ≡ 0) × (taken.new ≡ taken.old)) }
     ensures played { IfOk result (λ p. (taken.new ≡ played (fresh pace.entry.period pace.entry.jitter pace.entry.costs.now) steps.now taken.old) × (p.row ≡ moved (fresh pace.entry.period pace.entry.jitter pace.entry.costs.now) steps.now taken.old)) }
     ensures explained { OnOk result (AllAnswered pace.entry.period pace.entry.jitter pace.entry.costs.now steps.now taken.new) }
 {
     let mut part = Paced::new(pace)?;
-    // a loop over an adapter of `iter_mut` tells a proof nothing of what it writes, so the answers go by place
-    let count = steps.len().min(taken.len());
-    for (place, step) in steps[..count].iter().enumerate() {
-        taken[place] = make(&mut part, *step);
-    }
+    play(&mut part, steps, taken);
     Ok(part)
 }

@@ -19,8 +19,8 @@ pub struct Store {
 // How many stores a reserve has.
 pub const STORES: u32 = 2;
 
-// A gate of two parts, each a store that is never filled up again. Two fields and no array: what an offer makes is told of each store by
-// itself.
+// A gate of two parts, each a store that is never filled up again. Two fields and no array, since a clause
+// names the one or the other.
 #[derive(Clone, Copy)]
 pub struct Reserve {
     first: Store,
@@ -137,7 +137,7 @@ impl Even {
     pub fn new(parts: u32) -> Option<Even>
         ensures { MatchOption result (1000 < parts) (λ e. (parts ≤ 1000) × (e.parts ≡ parts)) }
     {
-        // tried as `then`: its closure knows nothing of the test, and the fact in the type is not found there
+        // tried as `then`: the prover does not find the fact in the type for a value that a closure makes
         if parts > MOST_PARTS {
             return None;
         }

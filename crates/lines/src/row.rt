@@ -1,6 +1,5 @@
 // What a line says.
-ghost use Rattle.std.specs.Prelude.{◌≡◌, ◌+◌, min, ltb, if◌then◌else◌, [], take, slice_set};
-ghost use Rattle.lines.specs.Rows.{costs_of};
+ghost use Rattle.std.specs.Prelude.{◌≡◌, ◌+◌, min, ltb, if◌then◌else◌, take, slice_set};
 
 // The keywords with which a line begins.
 #[derive(Clone, Copy, PartialEq, Eq, Debug)]
@@ -22,7 +21,8 @@ pub struct Costs {
     pub count: usize,
 }
 
-// What a line says, number for number as it stands there. Offsets, lengths, periods, jitters, deadlines and holds are in ticks, blocking and costs in units.
+// What a line says, number for number as it stands there. Offsets, lengths, periods, jitters, deadlines and holds are in ticks,
+// blocking and costs in units.
 #[derive(Clone, Copy)]
 pub enum Row {
     Cycle {

@@ -60,5 +60,5 @@ pub refusal_short : (refusal : Refusal) → refusal.line < 2 ^ 32 → length (re
 refusal_short refusal l = refusal_line_short (row refusal.fault).number (row refusal.fault).layer refusal.line (omega (arith, number_small refusal.fault)) l
 
 -- one line more, of the item that stands at its place
-pub lines_more : {X : Type 0} (line : ℕ → X → List ℕ) (item : ℕ → X) (n : ℕ) (x : X) → x ≡ item n → numbered line item n ++ line (n + 1) x ≡ numbered line item (n + 1)
-lines_more line item n x e = ap (λ y. numbered line item n ++ line (n + 1) y) e ∙ ap (numbered line item) (sym (add-one n))
+pub line_more : {X : Type 0} (line : ℕ → X → List ℕ) (item : ℕ → X) (n : ℕ) (y : List ℕ) → y ≡ line (n + 1) (item n) → numbered line item n ++ y ≡ numbered line item (n + 1)
+line_more line item n y e = ap (λ t. numbered line item n ++ t) e ∙ ap (numbered line item) (sym (add-one n))

@@ -1,5 +1,6 @@
 -- Successive costs: what the loops over them keep.
-use Rattle.std.proofs.Common.{◌≡◌, ℕ, ◌+◌, ◌-◌, ◌*◌, ◌<◌, ◌≤◌, max, cond, ltb, List, length, take, sym, ap, ◌∙◌, arith}
+use Rattle.std.proofs.Common.{◌≡◌, ℕ, ◌+◌, ◌-◌, ◌*◌, ◌<◌, ◌≤◌, max, nat_cmp, cond, ltb, List, length, take, sym, ap, ◌∙◌, arith}
+use Rattle.std.specs.Ordering.{ord_max}
 use Rattle.std.proofs.lemmas.List.{length-take-le, get_or-take}
 use Rattle.std.proofs.lemmas.Bool.{lt-ltb}
 use Rattle.cycles.specs.Round.{sum, top, met, onward}
@@ -25,11 +26,14 @@ module _ (xs : List ℕ) (m i w b : ℕ) (within : i < length xs) (short : m < l
   end_is : (e : ℕ) → e ≡ cond (ltb (i + m) (length xs)) (i + m) (i + m - length xs) → e ≡ onward (length xs) i m
   end_is e p = p ∙ sym (onward_at (length xs) i m within short)
 
-  pub window_slides : (e : ℕ) → e ≡ cond (ltb (i + m) (length xs)) (i + m) (i + m - length xs) → w + at xs e ≡ at xs i + met (length xs) (at xs) (turn (length xs) (i + 1)) m
+  pub window_slides : (e : ℕ) → e ≡ cond (ltb (i + m) (length xs)) (i + m) (i + m - length xs) → w + at xs e - at xs i ≡ met (length xs) (at xs) (turn (length xs) (i + 1)) m
   window_slides e p = omega (arith, w_here, ap (at xs) (end_is e p), met_slides (length xs) (at xs) i m)
 
-  pub best_grows : b ≡ largest_from (length xs) xs m i → max b w ≡ largest_from (length xs) xs m (i + 1)
-  best_grows h = omega (arith, h, w_here, top_on (λ p. met (length xs) (at xs) p m) i)
+  -- the larger of b and w
+  pub best_grows : b ≡ largest_from (length xs) xs m i → (c : ℕ) → c ≡ ord_max nat_cmp b w → c ≡ largest_from (length xs) xs m (i + 1)
+  best_grows h c e =
+      let larger : c ≡ max b w = grind arith in
+      omega (arith, larger, h, w_here, top_on (λ p. met (length xs) (at xs) p m) i)
 
 -- the first n of some costs, as a part `costs[..n]` has them
 

@@ -52,7 +52,8 @@ fn all_in_range(costs: &[u32]) -> bool
     costs.iter().all(|cost| in_range(*cost))
 }
 
-// Up to 8 costs in a table of 8, with 0 after the last.
+// Up to 8 costs in a table of 8, with 0 after the last. Four private functions ask for 8 costs at most: a type with that
+// fact would be made for each call, of a slice or of a part of an array.
 fn padded(costs: &[u32]) -> [u32; 8]
     requires { length costs.now ≤ 8 }
     ensures { result ≡ costs.now ++ replicate (8 - length costs.now) 0 }
@@ -96,6 +97,7 @@ fn wrapped(size: usize, place: usize) -> usize
 }
 
 // The largest sum of `m` successive costs from any place, where that is less than a round.
+#[tactic(auto, using(crate::proofs::Runs::window_slides, crate::proofs::Runs::best_grows))]
 fn largest_part(costs: &[u32], m: u32) -> u32
     requires few { length costs.now ≤ 8 }
     requires small { (i : ℕ) → at costs.now i ≤ 1000000 }

@@ -71,6 +71,7 @@ impl Gate for Paced {
         true
     }
 
+    #[tactic(auto, using(crate::specs::Together::single_ticked))]
     fn tick(&mut self) {
         self.row.lower();
     }

@@ -77,6 +77,18 @@ impl<const ROOM: usize> Table<ROOM> {
         Some(self.row(part)?.load())
     }
 
+    // Puts a row at a place in use.
+    fn put(&mut self, place: u32, row: Row)
+        requires place { place < self.old.count }
+        requires fit { Fit row }
+        ensures rows { self.new.rows ≡ slice_set self.old.rows place row }
+        ensures count { self.new.count ≡ self.old.count }
+    {
+        let mut moved = self.rows;
+        moved[place as usize] = row;
+        self.rows = moved;
+    }
+
     // One part more behind the others, with level and place 0, or what is wrong: no room or more than 8 costs; a period
     // or cost of 0, no cost or a number above 1,000,000; a jitter that is not below the period.
     pub fn add(&mut self, pace: Pace) -> Result<(), Fault>
@@ -136,12 +148,11 @@ impl<const ROOM: usize> Gate for Table<ROOM> {
             return false;
         }
         row.give();
-        let mut moved = self.rows;
-        moved[(part - 1) as usize] = row;
-        self.rows = moved;
+        self.put(part - 1, row);
         true
     }
 
+    #[tactic(auto, using(crate::specs::Together::ticks_on))]
     fn tick(&mut self) {
         let mut rows = self.rows;
         for row in rows.iter_mut() {

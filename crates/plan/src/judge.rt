@@ -1,6 +1,7 @@
 // The judge: task after task, from the highest on, until one has no window within its deadline. Its clauses name what a verdict rests
 // on, the demand, the parts, the limits, the count and the rows of the tasks, since the definitions speak of no plan and no gate.
-ghost use Rattle.plan.specs.Judged.{Judged, OnlyJudged};
+ghost use Rattle.std.specs.Prelude.{ℕ, ◌<◌, ◌≤◌, slice_index};
+ghost use Rattle.plan.specs.Judged.{Bounded, Unbounded, Judged, OnlyJudged};
 
 use crate::stages::OpenPlan;
 use crate::verdict::Verdict;
@@ -18,6 +19,21 @@ pub(crate) struct Finding {
 }
 
 impl<S: Source> OpenPlan<S> {
+    // What is found where the task at a place has no window, and each above it has the one that stands in `bounds`. It asks for place
+    // and parts as the search does. What the judge promises stands at each method from `judge` down to here, since each hands it on.
+    fn late(&self, place: u32, bounds: [u32; 16]) -> Finding
+        requires few { S.Source.parts self.now.bank ≤ 16 }
+        requires task { place < self.now.tasks.parts.count }
+        requires above { (i : ℕ) → i < place → Bounded (S.Source.demanded self.now.bank) (S.Source.parts self.now.bank) self.now.tasks.limits self.now.tasks.parts.count self.now.tasks.parts.rows i (slice_index bounds i) }
+        requires late { Unbounded (S.Source.demanded self.now.bank) (S.Source.parts self.now.bank) self.now.tasks.limits self.now.tasks.parts.count self.now.tasks.parts.rows place }
+        ensures { Judged (S.Source.demanded self.now.bank) (S.Source.parts self.now.bank) self.now.tasks.limits self.now.tasks.parts.count self.now.tasks.parts.rows result.verdict result.bounds }
+    {
+        Finding {
+            verdict: Verdict::late(place),
+            bounds,
+        }
+    }
+
     // Judges one task after another.
     fn find(&self) -> Finding
         ensures { Judged (S.Source.demanded self.now.bank) (S.Source.parts self.now.bank) self.now.tasks.limits self.now.tasks.parts.count self.now.tasks.parts.rows result.verdict result.bounds }
@@ -33,10 +49,7 @@ impl<S: Source> OpenPlan<S> {
         // over numbers: a place is what the search is asked about, and the bound it finds goes into the table there
         for place in 0..count {
             let Some(ticks) = self.window_of(place) else {
-                return Finding {
-                    verdict: Verdict::late(place),
-                    bounds,
-                };
+                return self.late(place, bounds);
             };
             bounds[place as usize] = ticks;
         }

@@ -1,5 +1,5 @@
-// The search for the smallest window that holds what a task needs. Each function asks for its place and for the count of parts: the judge
-// has tested both, and a type for a place would have to be tied to its plan.
+// The search for the smallest window that holds what a task needs. A method asks for a place below the count of tasks and for a bank of at
+// most 16 parts: the judge goes over such places and has tested the parts, and a type for a place would have to be tied to its plan.
 ghost use Rattle.std.specs.Prelude.{◌≡◌, ◌+◌, ◌^◌, ◌<◌, ◌≤◌};
 ghost use Rattle.plan.specs.Limits.{limit_at};
 ghost use Rattle.plan.specs.Needs.{total, needed, Searched};
@@ -16,7 +16,8 @@ fn total_of<S: Source>(source: &S, parts: u32, ticks: u32) -> u64
     ensures small { result ≤ 160000000000000 }
 {
     let mut all: u64 = 0;
-    // counted from 0: a loop over `1..=parts` ends in two places, and its proof is twice as long
+    // tried as a sum over a map: the proof of what `sum` asks, that each sum on the way fits, did not close. Counted from 0, as the
+    // definition sums: of a loop over `1..=parts` a proof has to look at two ends, below the last number and at it
     for place in 0..parts {
         all += source.demand(place + 1, ticks).unwrap_or(0);
     }
@@ -44,7 +45,7 @@ impl<S: Source> OpenPlan<S> {
         let own = self.tasks.own_need(place);
         let parts = self.bank.count();
         let by_bank = total_of(&self.bank, parts, ticks);
-        let by_tasks = total_of(self.tasks.parts(), place, ticks);
+        let by_tasks = total_of(&self.tasks.parts, place, ticks);
         needed_with(own, by_bank, by_tasks)
     }
 

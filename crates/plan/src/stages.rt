@@ -18,7 +18,8 @@ pub struct OpenPlan<S> {
     pub(crate) tasks: Tasks,
 }
 
-// A plan with its verdict and, if it is accepted, the bound of each task: the two that clauses name, and no finding of the judge's.
+// A plan with its verdict and, if it is accepted, the bound of each task: the judge's finding taken apart, since clauses and a run name
+// each by itself, and a field for both would only put a word before each.
 #[derive(Drop)]
 pub struct JudgedPlan<S> {
     bank: S,
@@ -118,8 +119,8 @@ impl<S> JudgedPlan<S> {
         self.verdict
     }
 
-    // Writes the bounds into a list, as many as fit, and returns how many it wrote: none if the plan is not accepted. The
-    // rest of the list does not change.
+    // Writes the bounds into a list that the caller lends, as the project wants it, as many as fit, and returns how many it
+    // wrote: none if the plan is not accepted. The rest of the list does not change.
     pub fn bounds(&self, list: &mut [u32]) -> usize
         ensures count { result ≡ min (bounds_told self.now.verdict) (length list.old) }
         ensures list { list.new ≡ take result self.now.bounds ++ drop result list.old }

@@ -26,7 +26,8 @@ pub struct Limit {
 // Up to 16 tasks, in the order of their priority.
 #[derive(Clone, Copy)]
 pub struct Tasks {
-    parts: Table<16>,
+    // part k is the paced part of the k-th task
+    pub(crate) parts: Table<16>,
     // as many in use as there are parts: a rule of the project, which has fixed memory and no heap here
     limits: [Limit; 16],
     ghost held: { length limits ≡ 16 },
@@ -80,6 +81,16 @@ impl Tasks {
         None
     }
 
+    // The limits of the tasks, and behind them those of one more.
+    fn limits_with(&self, limit: Limit) -> [Limit; 16]
+        requires { self.now.parts.count < 16 }
+        ensures { result ≡ slice_set self.now.limits self.now.parts.count limit }
+    {
+        let mut limits = self.limits;
+        limits[self.parts.count() as usize] = limit;
+        limits
+    }
+
     // One task more, below the others, or what is wrong with it: a 17th task or more than 8 costs; a period, deadline or
     // cost of 0, no cost or a number above 1,000,000; a jitter that is not below the period or a deadline above period
     // less jitter; a hold above the blocking of an earlier task.
@@ -87,11 +98,9 @@ impl Tasks {
         ensures { MatchResult result (λ _. (task_fault self.old.limits self.old.parts.count pace.entry.period pace.entry.jitter limit.blocking limit.deadline limit.hold pace.entry.costs.now ≡ None) × (self.new.parts.rows ≡ slice_set self.old.parts.rows self.old.parts.count (fresh pace.entry.period pace.entry.jitter pace.entry.costs.now)) × (self.new.parts.count ≡ self.old.parts.count + 1) × (self.new.limits ≡ slice_set self.old.limits self.old.parts.count limit)) (λ fault. (task_fault self.old.limits self.old.parts.count pace.entry.period pace.entry.jitter limit.blocking limit.deadline limit.hold pace.entry.costs.now ≡ Some fault) × (self.new ≡ self.old)) }
     {
         first_fault(self.parts.fault(pace), self.limit_fault(pace, limit)).map_or(Ok(()), Err)?;
-        let place = self.parts.count() as usize;
         let mut parts = self.parts;
         parts.add(pace)?;
-        let mut limits = self.limits;
-        limits[place] = limit;
+        let limits = self.limits_with(limit);
         self.parts = parts;
         self.limits = limits;
         Ok(())
@@ -125,7 +134,7 @@ impl Tasks {
     pub fn table(&self) -> Table<16>
         ensures { result ≡ self.now.parts }
     {
-        *self.parts()
+        self.parts // a copy
     }
 
     // The limits of all tasks, by place.
@@ -135,14 +144,7 @@ impl Tasks {
         self.limits
     }
 
-    // The paced parts of the tasks: part k is that of the k-th task.
-    pub(crate) fn parts(&self) -> &Table<16>
-        ensures { result.now ≡ self.now.parts }
-    {
-        &self.parts
-    }
-
-    // The deadline of the task at a place, counted from 0.
+    // The deadline of the task at a place, counted from 0. This and the next ask for a place in use, as the search does.
     pub(crate) fn deadline(&self, place: u32) -> u32
         requires { place < self.now.parts.count }
         ensures value { result ≡ (limit_at self.now.limits place).deadline }

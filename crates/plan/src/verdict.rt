@@ -25,8 +25,8 @@ impl Verdict {
         Verdict::Late(place + 1)
     }
 
-    // The number of the refusal that the verdict stands for, 0 if the plan is accepted, as it is defined in numbers: said case by
-    // case, so that it can be held against the pages.
+    // The number of the refusal that the verdict stands for, 0 if the plan is accepted: a number, as its definition has it, said case
+    // by case, so that it can be held against the pages.
     pub fn number(self) -> u32
         ensures { result ≡ (told self).number }
     {

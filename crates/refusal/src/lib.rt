@@ -109,7 +109,6 @@ impl Fault {
 pub fn first_fault(a: Option<Fault>, b: Option<Fault>) -> Option<Fault>
     ensures { result ≡ first_of a b }
 {
-    // a match: at `min_by_key` a reader has to know which of two equal numbers it takes
     match (a, b) {
         (Some(f), Some(g)) if f.number() > g.number() => Some(g),
         (Some(f), _) => Some(f),
@@ -119,7 +118,7 @@ pub fn first_fault(a: Option<Fault>, b: Option<Fault>) -> Option<Fault>
 
 // A refusal: the fault, the line of the sheet that it stands on (0 without a sheet, and for the faults that are of no
 // line), and the number of the task that was judged, added or named (0 where there is none): numbers, since a listing
-// prints the line as it is, and the line of an answer both.
+// prints the line of the sheet as it is, and a rehearsal prints both.
 #[derive(Clone, Copy, PartialEq, Eq, Debug)]
 pub struct Refusal {
     pub fault: Fault,

@@ -1,13 +1,14 @@
 -- Pairs in a list.
-use Rattle.std.proofs.Common.{◌≡◌, ℕ, true, zero, suc, ◌+◌, ◌-◌, ◌*◌, ◌<◌, ◌≤◌, eqb, ltb, List, length, get_or, set, replicate, sym, refl, ap, ◌∙◌, subst, inl, inr, arith, get_or-set_other, get_or-set_same}
+use Rattle.std.proofs.Common.{◌≡◌, ℕ, true, zero, suc, ◌+◌, ◌-◌, ◌*◌, ◌<◌, ◌≤◌, max, nat_cmp, eqb, ltb, List, length, get_or, set, replicate, sym, refl, ap, ◌∙◌, subst, inl, inr, arith, get_or-set_other, get_or-set_same}
+use Rattle.std.specs.Ordering.{ord_max}
 use Rattle.std.proofs.lemmas.Bool.{cond_both, cases_eq}
 use Rattle.std.proofs.lemmas.Bool.Decides.{nat_tests}
 use Rattle.cycles.specs.Round.{sum, top}
-use Rattle.cycles.proofs.Rounds.{sum_least, sum_on, sum_same}
+use Rattle.cycles.proofs.Rounds.{sum_least, sum_on, sum_same, top_on}
 use Rattle.schedule.specs.Windows.{from_pair, window_end, pairs_suffice}
 use Rattle.schedule.specs.Makes.{follows}
 use Rattle.schedule.specs.Phases.{none, offset_of, length_of, if_at, lengths_met}
-use Rattle.schedule.specs.Twice.{offset_twice, units_twice, met_from}
+use Rattle.schedule.specs.Twice.{offset_twice, units_twice, met_from, Ends}
 use Rattle.schedule.specs.declared.slot.Slot.{Slot}
 
 module _ (slots : List Slot) (lengths : (i : ℕ) → length_of slots i ≤ 1000000) where
@@ -20,19 +21,30 @@ module _ (slots : List Slot) (lengths : (i : ℕ) → length_of slots i ≤ 1000
   pub sum_small : (e : ℕ) → sum (length_of slots) e ≤ e * 1000000
   sum_small e = sum_least (length_of slots) e 1000000 (λ j _. lengths j)
 
+max_is : (b x n : ℕ) → n ≡ ord_max nat_cmp b x → n ≡ max b x
+max_is b x n e = grind arith
+
 -- from pair i on, once the end of the window is moved on to e
 module _ (c : ℕ) (slots : List Slot) (rising : (i j : ℕ) → i < j → j < length slots → offset_of slots i < offset_of slots j) (below : (i : ℕ) → i < length slots → offset_of slots i < c) where
-  pub window_is : (r i e : ℕ) → i < length slots → r < c → e ≤ length slots + i → ((j : ℕ) → j < e → offset_twice slots c j < offset_of slots i + r) → (e < length slots + i → offset_of slots i + r ≤ offset_twice slots c e) → sum (length_of slots) i + met_from c (length slots) slots r i ≡ sum (units_twice slots) e
-  window_is r i e h p q before stopped =
+  pub window_is : (r i e : ℕ) → Ends c slots (offset_of slots i + r) (length slots + i) e → i < length slots → r < c → sum (length_of slots) i + met_from c (length slots) slots r i ≡ sum (units_twice slots) e
+  window_is r i e ends h p =
       let n = length slots in
       let o = offset_of slots in
       let z = length_of slots in
       let pos : 0 < c = omega arith in
-      from_pair c n o z pos below rising i r e h (omega arith) (omega arith) before (window_end c n o z pos below rising i r e h (omega arith) q stopped)
+      from_pair c n o z pos below rising i r e h (omega arith) (omega arith) ends.before (window_end c n o z pos below rising i r e h (omega arith) ends.within ends.after)
 
   -- the largest from a pair is the largest from any phase
   pub pairs_are_worst : (r : ℕ) → 0 < c → top (met_from c (length slots) slots r) (length slots) ≡ top (lengths_met c (length slots) slots r) c
   pairs_are_worst r pos = pairs_suffice c (length slots) (offset_of slots) (length_of slots) pos below rising r
+
+-- the larger of the largest so far, which is that of the first i, and of the next
+pub larger_next : (f : ℕ → ℕ) (i b x n : ℕ) → b ≡ top f i → x ≡ f i → n ≡ ord_max nat_cmp b x → n ≡ top f (i + 1)
+larger_next f i b x n b_is x_is n_is = omega (arith, max_is b x n n_is, b_is, x_is, top_on f i)
+
+-- where a window ended lies before its end from the next pair
+pub before_next : (c : ℕ) (slots : List Slot) (r i e : ℕ) → ((j : ℕ) → j < e → offset_twice slots c j < offset_of slots i + r) → ((i j : ℕ) → i < j → j < length slots → offset_of slots i < offset_of slots j) → i + 1 < length slots → (j : ℕ) → j < e → offset_twice slots c j < offset_of slots (i + 1) + r
+before_next c slots r i e before rising next j l = omega (arith, before j l, rising i (i + 1) (omega arith) next)
 
 -- an empty table of pairs
 pub none_at : (n i : ℕ) → get_or (replicate n none) i none ≡ none

@@ -67,9 +67,18 @@ impl Schedule {
         offset < self.cycle && used.last().is_none_or(|last| last.offset < offset)
     }
 
+    // The sum of all lengths, with that of one pair more.
+    #[tactic(auto, using(crate::proofs::Slots::sum_small, crate::proofs::Slots::add_sum))]
+    fn whole_with(&self, slot: Slot) -> u32
+        requires count { self.now.count < 64 }
+        requires length { slot.length ≤ 1000000 }
+        ensures { result ≡ sum (length_of (set self.now.slots self.now.count slot)) (self.now.count + 1) }
+    {
+        self.whole + slot.length
+    }
+
     // One pair more behind the others, or a refusal: a 65th pair; a length of 0 or a number above 1,000,000; an offset
     // that is not below the cycle or not above that of the last pair.
-    #[tactic(auto, using(crate::proofs::Slots::sum_small))]
     pub fn add(&mut self, offset: u32, length: u32) -> Result<(), Refusal>
         ensures { MatchResult result (λ _. (pair_fault self.old.cycle self.old.count self.old.slots offset length ≡ None) × (self.new.cycle ≡ self.old.cycle) × (self.new.count ≡ self.old.count + 1) × (self.new.slots ≡ set self.old.slots self.old.count (record { offset = offset; length = length })) × (self.new.phase ≡ self.old.phase) × (self.new.taken ≡ self.old.taken)) (λ e. (pair_fault self.old.cycle self.old.count self.old.slots offset length ≡ Some e.fault) × (e.line ≡ 0) × (e.task ≡ 0) × (self.new ≡ self.old)) }
     {
@@ -82,10 +91,12 @@ impl Schedule {
         if !self.follows(offset) {
             return Err(Refusal::plain(Fault::Misfit));
         }
+        let slot = Slot { offset, length };
+        let whole = self.whole_with(slot);
         let mut slots = self.slots;
-        slots[self.count as usize] = Slot { offset, length };
+        slots[self.count as usize] = slot;
         self.slots = slots;
-        self.whole += length;
+        self.whole = whole;
         self.count += 1;
         Ok(())
     }
@@ -109,6 +120,7 @@ impl Schedule {
     }
 
     // The largest sum of lengths met in `ticks` ticks, from any phase on.
+    #[tactic(auto, using(crate::proofs::Wholes::demand_is))]
     fn largest(&self, ticks: u32) -> u64
         ensures { result ≡ demand (view_of self.now) ticks }
     {

@@ -2,7 +2,7 @@
 ghost use Rattle.std.specs.Prelude.{◌≡◌, ℕ, ◌+◌, ◌-◌, ◌<◌, ◌≤◌, length};
 ghost use Rattle.cycles.specs.Round.{sum, top};
 ghost use Rattle.schedule.specs.Phases.{offset_of, length_of, length_at, lengths_met};
-ghost use Rattle.schedule.specs.Twice.{offset_twice, units_twice};
+ghost use Rattle.schedule.specs.Twice.{offset_twice, units_twice, met_from, Ends};
 
 // A pair: from `offset` on in each cycle, work of `length` units.
 #[derive(Clone, Copy, Default)]
@@ -57,10 +57,8 @@ impl<'a> Round<'a> {
         requires end { reach.end ≤ limit }
         requires sum { reach.sum ≡ sum (units_twice self.now.slots.now) reach.end }
         requires before { (j : ℕ) → j < reach.end → offset_twice self.now.slots.now self.now.cycle j < until }
-        ensures end { result.end ≤ limit }
         ensures sum { result.sum ≡ sum (units_twice self.now.slots.now) result.end }
-        ensures before { (j : ℕ) → j < result.end → offset_twice self.now.slots.now self.now.cycle j < until }
-        ensures after { result.end < limit → until ≤ offset_twice self.now.slots.now self.now.cycle result.end }
+        ensures ends { Ends self.now.cycle self.now.slots.now until limit result.end }
     {
         // the end moves on from one call to the next, so it is a place and no iterator
         while reach.end < limit {
@@ -74,19 +72,35 @@ impl<'a> Round<'a> {
         reach
     }
 
+    // The same window with its end moved on as far as it reaches in `ticks` ticks from the pair at a place.
+    #[tactic(auto, using(crate::proofs::Slots::window_is))]
+    fn moved_from(&self, reach: Reach, start: usize, ticks: u32) -> Reach
+        requires pair { start < length self.now.slots.now }
+        requires ticks { ticks < self.now.cycle }
+        requires end { reach.end ≤ length self.now.slots.now + start }
+        requires sum { reach.sum ≡ sum (units_twice self.now.slots.now) reach.end }
+        requires before { (j : ℕ) → j < reach.end → offset_twice self.now.slots.now self.now.cycle j < offset_of self.now.slots.now start + ticks }
+        ensures sum { result.sum ≡ sum (units_twice self.now.slots.now) result.end }
+        ensures end { result.end ≤ length self.now.slots.now + start }
+        ensures before { (j : ℕ) → j < result.end → offset_twice self.now.slots.now self.now.cycle j < offset_of self.now.slots.now start + ticks }
+        ensures met { sum (length_of self.now.slots.now) start + met_from self.now.cycle (length self.now.slots.now) self.now.slots.now ticks start ≡ sum (units_twice self.now.slots.now) result.end }
+    {
+        let slot = self.slots[start];
+        self.moved_on(reach, slot.offset + ticks, self.slots.len() + start)
+    }
+
     // The largest sum of lengths met in `ticks` ticks, fewer than the cycle has, from any phase on: the largest from a pair.
     // As the project wants it, a loop goes over the pairs with their index, sums and keeps the largest.
-    #[tactic(auto, using(crate::proofs::Slots::sum_small, crate::proofs::Slots::pairs_are_worst))]
+    #[tactic(auto, using(crate::proofs::Slots::sum_small, crate::proofs::Slots::pairs_are_worst, crate::proofs::Slots::larger_next, crate::proofs::Slots::before_next))]
     pub(crate) fn largest_met(&self, ticks: u32) -> u32
         requires { ticks < self.now.cycle }
         ensures { result ≡ top (lengths_met self.now.cycle (length self.now.slots.now) self.now.slots.now ticks) self.now.cycle }
     {
-        let size = self.slots.len();
         let mut best = 0;
         let mut passed = 0;
         let mut reach = Reach { end: 0, sum: 0 };
         for (start, slot) in self.slots.iter().enumerate() {
-            reach = self.moved_on(reach, slot.offset + ticks, size + start);
+            reach = self.moved_from(reach, start, ticks);
             best = best.max(reach.sum - passed);
             passed += slot.length;
         }

@@ -9,6 +9,7 @@ use listing::{Listing, ROOM, write_listing};
 use refusal::{Fault, Refusal};
 
 // What is listed of a sheet, with the laws that nothing else is, and that its lines are the only ones.
+#[tactic(auto, using(crate::proofs::Telling::only_listed))]
 fn listing_of(sheet: &[u8]) -> Listing
     ensures listed { Listed sheet.now (listing_text result) }
     ensures only { OnlyListed sheet.now }

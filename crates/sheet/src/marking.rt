@@ -36,8 +36,8 @@ fn outcome_on_line(finished: &Finished, verdict: Verdict) -> Result<u32, Refusal
         .map_err(|refusal| refusal.on_line(line_of(finished, refusal.task)))
 }
 
-// The bounds of the tasks by the judge, in fixed memory as in a judged plan, of which the draft says how many are in use; or its refusal
-// with the line of the task.
+// The bounds of the tasks by the judge, or its refusal with the line of the task. They are in fixed memory as in a judged plan; how many
+// are in use, the draft says.
 fn judged(finished: &Finished) -> Result<[u32; 16], Refusal>
     ensures { (v : Verdict) × (bounds : List ℕ) × JudgedPlan (view finished.now.draft) v bounds × Answered (record { plan = view finished.now.draft; lines = finished.now.lines }) v bounds result }
 {

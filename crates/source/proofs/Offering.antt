@@ -23,3 +23,7 @@ module _ (n : ℕ) (d a : ℕ → ℕ → ℕ) (sound : Sound n d a) (k : ℕ) w
       go : (b : Bool) → is_part n k ≡ b → a k 1 ≡ 0
       go true p = elim (cases_lt 0 u) [ inl some ↦ absurd (both_ways (offerable n a k u) (sym refused) (offerable_from n a k u p some (omega arith))) | inr none ↦ omega arith ]
       go false p = outside_none p
+
+-- where an offer of all that a part may bring is not taken, that was nothing
+pub nothing_offered : (n : ℕ) (d a : ℕ → ℕ → ℕ) → Sound n d a → (k : ℕ) (o : Option ℕ) (u : ℕ) (taken : Bool) → o ≡ cond (is_part n k) (Some (a k 1)) None → u ≡ unwrap_or o 0 → taken ≡ offerable n a k u → taken ≡ false → a k 1 ≡ 0
+nothing_offered n d a sound k o u taken e f g h = none_left n d a sound k u (f ∙ all_is n d a sound k o e) (sym h ∙ g)

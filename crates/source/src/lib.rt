@@ -40,6 +40,8 @@ pub trait Source {
 
 // A source that can be driven: it takes offers of units, and time passes.
 //
+// That demand and count are kept stands at each call, though the law `driven` says it too, so that nobody has to cite the law for it.
+//
 // takes s k u t says that s, offered u units at part k, takes them and becomes t; ticks s t that a tick makes t of s.
 pub trait Gate: Source {
     ghost takes: { Self → ℕ → ℕ → Self → Type 0 };
@@ -66,6 +68,7 @@ pub trait Gate: Source {
 
 // Offers a part all that it may bring in this tick, and says how much that was: a count of units, 0 also for a number that is no
 // part.
+#[tactic(auto, using(crate::proofs::Offering::nothing_offered))]
 pub fn offer_all<G: Gate>(bank: &mut G, part: u32) -> u64
     ensures units { result ≡ G.Source.allowed bank.old part 1 }
     ensures refused { result ≡ 0 → bank.new ≡ bank.old }

@@ -66,8 +66,14 @@ module _ (s : ℕ) where
   cut_by xs (Some r) p = (sym p.front, sym p.back)
 
   -- the two parts of a text that is cut there, or at its end
-  pub cut_at : (xs : List ℕ) (o : Option ℕ) → o ≡ position (λ x. eqb x s) xs → (take (unwrap_or o (length xs)) xs ≡ before s xs) × (drop (unwrap_or o (length xs)) xs ≡ onward s xs)
+  cut_at : (xs : List ℕ) (o : Option ℕ) → o ≡ position (λ x. eqb x s) xs → (take (unwrap_or o (length xs)) xs ≡ before s xs) × (drop (unwrap_or o (length xs)) xs ≡ onward s xs)
   cut_at xs o e = cut_by xs o (found xs o e)
+
+  pub front_cut : (xs : List ℕ) (o : Option ℕ) (end : ℕ) (front : List ℕ) → o ≡ position (λ x. eqb x s) xs → end ≡ unwrap_or o (length xs) → front ≡ take end xs → front ≡ before s xs
+  front_cut xs o end front e f g = g ∙ ap (λ k. take k xs) f ∙ (cut_at xs o e).0
+
+  pub rest_cut : (xs : List ℕ) (o : Option ℕ) (end : ℕ) (rest : List ℕ) → o ≡ position (λ x. eqb x s) xs → end ≡ unwrap_or o (length xs) → rest ≡ drop end xs → rest ≡ onward s xs
+  rest_cut xs o end rest e f g = g ∙ ap (λ k. drop k xs) f ∙ (cut_at xs o e).1
 
 pub pieces_first : (s : ℕ) (xs : List ℕ) → pieces s xs ≡ before s xs ∷ following s (onward s xs)
 pieces_first s [] = refl

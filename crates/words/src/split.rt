@@ -18,6 +18,7 @@ pub fn first_line(sheet: &[u8]) -> Option<(&[u8], &[u8])>
 }
 
 // What stands before the first space, or all; and the rest from that space on, or nothing.
+#[tactic(auto, using(crate::proofs::Cutting::front_cut, crate::proofs::Cutting::rest_cut))]
 pub fn first_word(rest: &[u8]) -> (&[u8], &[u8])
     ensures word { result.0.now ≡ before 32 rest.now }
     ensures rest { result.1.now ≡ onward 32 rest.now }

@@ -1,8 +1,8 @@
-use Rattle.std.proofs.Common.{◌≡◌, ◌≤◌, max, length, sym, refl, ap, ◌∙◌, arith}
+use Rattle.std.proofs.Common.{◌≡◌, ◌≤◌, length, sym, refl, ap, ◌∙◌, arith}
 use Rattle.cycles.specs.Round.{met}
 use Rattle.cycles.proofs.Rounds.{met_first}
 use Rattle.paced.specs.Runs.{at}
-use Rattle.paced.proofs.Runs.{turn, turn_at, front_sum, window_small, window_slides, best_grows}
+use Rattle.paced.proofs.Runs.{turn, turn_at, front_sum, window_small}
 use Rattle.paced.proofs.row.largest_part.Goals as goal
 
 pub loop-place-init : goal.loop-place-init
@@ -16,8 +16,3 @@ loop-place-init c =
 
 pub overflow_add-window : goal.overflow_add-window
 overflow_add-window c = omega (arith, window_small c.args.costs.now c.args.m c.loop-place.place c.loop-place.window c.loop-place.best c.loop-place-test.true c.requires.short c.loop-place.invariant.0 c.requires.small, c.requires.small c.wrapped-end.result)
-
-pub loop-place-preserved : goal.loop-place-preserved
-loop-place-preserved c =
-    let larger : c.max-best.result ≡ max c.loop-place.best c.loop-place.window = grind arith in
-    (omega (arith, window_slides c.args.costs.now c.args.m c.loop-place.place c.loop-place.window c.loop-place.best c.loop-place-test.true c.requires.short c.loop-place.invariant.0 c.wrapped-end.result c.wrapped-end.ensures), larger ∙ best_grows c.args.costs.now c.args.m c.loop-place.place c.loop-place.window c.loop-place.best c.loop-place-test.true c.requires.short c.loop-place.invariant.0 c.loop-place.invariant.1)

@@ -1,17 +1,10 @@
-use Rattle.std.proofs.Common.{◌≡◌, ℕ, ◌<◌, map, length, set, sym, refl, ap, ◌∙◌, subst, arith}
+use Rattle.std.proofs.Common.{◌≡◌, ℕ, ◌<◌, map, length, sym, refl, ◌∙◌, subst, arith}
 use Rattle.std.proofs.lemmas.List.{length-map}
 use Rattle.paced.specs.Pace.{later, Paces, Places, Costs, Fit}
 use Rattle.paced.specs.Tables.{row_at, Passes}
 use Rattle.paced.specs.Rows.{later_fit}
-use Rattle.paced.specs.Together.{list_ticked, later_every, ticks_on, ticks_all}
+use Rattle.paced.specs.Together.{list_ticked, later_every, ticks_all}
 use Rattle.paced.proofs.table.TableGate.tick.Goals as goal
-
-pub loop-row-preserved : goal.loop-row-preserved
-loop-row-preserved g c =
-    let s = c.args.self.now in
-    let ys = c.loop-row.row-items in
-    let i = c.loop-row.row-index in
-    ap (set ys i) c.lower.ensures ∙ ticks_on s.rows ys i (omega arith) c.loop-row.invariant
 
 pub invariant_of-self : goal.invariant_of-self
 invariant_of-self g c =

@@ -1,18 +1,14 @@
-use Rattle.std.proofs.Common.{ℕ, ◌<◌, ◌≤◌, arith}
-use Rattle.paced.specs.Tables.{row_at}
-use Rattle.paced.specs.Together.{table_sound}
+use Rattle.std.proofs.Common.{ℕ, ◌<◌, arith}
 use Rattle.plan.specs.Needs.{needed}
-use Rattle.plan.proofs.Climbing.{needed_rises, climbs, none_within}
+use Rattle.plan.proofs.Climbing.{task_rises, climbs, none_within}
 use Rattle.plan.proofs.stages.OpenPlan.window_of.Goals as goal
 
 pub returns-then-need-from-2 : goal.returns-then-need-from-2
 returns-then-need-from-2 g c =
     let b = c.args.self.now.bank in
     let t = c.args.self.now.tasks in
-    let p = t.parts in
-    let f : ℕ → ℕ = needed (g.S.Source.demanded b) (g.S.Source.parts b) t.limits p.count p.rows c.args.place in
-    let tasks = table_sound p.count (row_at p.rows) (omega (arith, p.few)) (λ i h. record { paces = p.paces i h; places = p.places i h; costs = p.costs i h }) in
-    let rises : (l m : ℕ) → l ≤ m → f l ≤ f m = needed_rises (g.S.Source.parts b) (g.S.Source.demanded b) (g.S.Source.allowed b) (g.met.S.Source.sound b) t.limits p.count p.rows tasks c.args.place in
+    let f : ℕ → ℕ = needed (g.S.Source.demanded b) (g.S.Source.parts b) t.limits t.parts.count t.parts.rows c.args.place in
+    let rises = task_rises (g.S.Source.parts b) (g.S.Source.demanded b) (g.S.Source.allowed b) (g.met.S.Source.sound b) t c.args.place in
     let late : c.deadline-deadline.result < f c.loop-ticks.ticks = omega (arith, c.need_of-need.ensures, c.from-in-loop-ticks.ensures) in
     λ l h k. none_within f rises c.loop-ticks.ticks c.loop-ticks.invariant.1 c.deadline-deadline.result late l h (omega (arith, c.deadline-deadline.ensures.value))
 
@@ -20,8 +16,5 @@ pub loop-ticks-preserved : goal.loop-ticks-preserved
 loop-ticks-preserved g c =
     let b = c.args.self.now.bank in
     let t = c.args.self.now.tasks in
-    let p = t.parts in
-    let f : ℕ → ℕ = needed (g.S.Source.demanded b) (g.S.Source.parts b) t.limits p.count p.rows c.args.place in
-    let tasks = table_sound p.count (row_at p.rows) (omega (arith, p.few)) (λ i h. record { paces = p.paces i h; places = p.places i h; costs = p.costs i h }) in
-    let rises : (l m : ℕ) → l ≤ m → f l ≤ f m = needed_rises (g.S.Source.parts b) (g.S.Source.demanded b) (g.S.Source.allowed b) (g.met.S.Source.sound b) t.limits p.count p.rows tasks c.args.place in
-    (omega arith, λ m h l. climbs f rises c.loop-ticks.ticks c.loop-ticks.invariant.1 m h (omega (arith, c.need_of-need.ensures)))
+    let rises = task_rises (g.S.Source.parts b) (g.S.Source.demanded b) (g.S.Source.allowed b) (g.met.S.Source.sound b) t c.args.place in
+    (omega arith, λ m h l. climbs _ rises c.loop-ticks.ticks c.loop-ticks.invariant.1 m h (omega (arith, c.need_of-need.ensures)))

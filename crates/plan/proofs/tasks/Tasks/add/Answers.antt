@@ -25,11 +25,11 @@ invariant_of-self c =
     let room : n < 16 = had_room n t j c.args.pace.costs.now grown.0 in
     let rows_room : n < length p.rows = omega (arith, p.held) in
     let limits_room : n < length s.limits = omega (arith, s.held) in
-    let at : c.count-place.result ≡ n = c.count-place.ensures in
+    let limits : c.limits_with-limits.result ≡ set s.limits n l = c.limits_with-limits.ensures in
     record {
-      held = subst (λ k. length (set s.limits k l) ≡ 16) (sym at) (length-set s.limits n l ∙ s.held);
-      deadlines = subst (λ k. (i : ℕ) → i < p'.count → (limit_at (set s.limits k l) i).deadline + (row_at p'.rows i).jitter ≤ (row_at p'.rows i).period) (sym at) (add_deadlines p.rows p'.rows s.limits n p'.count r l grown.1 grown.2 rows_room limits_room s.deadlines right.deadline);
-      blockings = subst (λ k. (i : ℕ) → i < p'.count → (limit_at (set s.limits k l) i).blocking ≤ 1000000) (sym at) (add_blockings p.rows p'.rows s.limits n p'.count r l grown.1 grown.2 rows_room limits_room s.blockings right.blocking);
-      holds = subst (λ k. (i m : ℕ) → i < m → m < p'.count → (limit_at (set s.limits k l) m).hold ≤ (limit_at (set s.limits k l) i).blocking) (sym at) (add_holds p.rows p'.rows s.limits n p'.count r l grown.1 grown.2 rows_room limits_room s.holds right.hold);
+      held = subst (λ xs. length xs ≡ 16) (sym limits) (length-set s.limits n l ∙ s.held);
+      deadlines = subst (λ xs. (i : ℕ) → i < p'.count → (limit_at xs i).deadline + (row_at p'.rows i).jitter ≤ (row_at p'.rows i).period) (sym limits) (add_deadlines p.rows p'.rows s.limits n p'.count r l grown.1 grown.2 rows_room limits_room s.deadlines right.deadline);
+      blockings = subst (λ xs. (i : ℕ) → i < p'.count → (limit_at xs i).blocking ≤ 1000000) (sym limits) (add_blockings p.rows p'.rows s.limits n p'.count r l grown.1 grown.2 rows_room limits_room s.blockings right.blocking);
+      holds = subst (λ xs. (i m : ℕ) → i < m → m < p'.count → (limit_at xs m).hold ≤ (limit_at xs i).blocking) (sym limits) (add_holds p.rows p'.rows s.limits n p'.count r l grown.1 grown.2 rows_room limits_room s.holds right.hold);
       at_rest = add_rest p.rows p'.rows s.limits n p'.count r l grown.1 grown.2 rows_room limits_room s.at_rest refl refl;
     }

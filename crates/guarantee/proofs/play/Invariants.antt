@@ -1,6 +1,6 @@
 use Rattle.std.proofs.Common.{◌≡◌, ℕ, ◌≤◌, take, drop}
 use Rattle.guarantee.specs.Playing.{Played}
-use Rattle.guarantee.proofs.rehearse.Given as goal
+use Rattle.guarantee.proofs.play.Given as goal
 
 -- the calls so far were made, what is fixed is as it was, and the answers from here on are too
 abbrev pub invariant-loop-place : goal.invariant-loop-place

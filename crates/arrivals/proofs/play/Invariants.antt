@@ -1,7 +1,7 @@
 use Rattle.std.proofs.Common.{◌≡◌}
 use Rattle.arrivals.specs.Steps.{played, moved}
 use Rattle.arrivals.proofs.Playing.{answers_at, end_at}
-use Rattle.arrivals.proofs.replay.Given as goal
+use Rattle.arrivals.proofs.play.Given as goal
 
 abbrev pub invariant-loop-place : goal.invariant-loop-place
 invariant-loop-place l =

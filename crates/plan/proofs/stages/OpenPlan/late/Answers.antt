@@ -1,0 +1,17 @@
+use Rattle.std.proofs.Common.{◌≡◌, ◌+◌, get_or, sym, subst, arith}
+use Rattle.plan.specs.Judged.{Judged, Unbounded}
+use Rattle.plan.specs.declared.verdict.Verdict.TheVariants.{Late}
+use Rattle.plan.proofs.stages.OpenPlan.late.Goals as goal
+
+pub returns : goal.returns
+returns g c =
+    let b = c.args.self.now.bank in
+    let t = c.args.self.now.tasks in
+    let found : Judged (g.S.Source.demanded b) (g.S.Source.parts b) t.limits t.parts.count t.parts.rows (Late (c.args.place + 1)) c.args.bounds = (
+      c.requires.few,
+      omega arith,
+      omega arith,
+      (λ i h. (get_or c.args.bounds i 0, c.requires.above i (omega arith))),
+      λ i e. let same : c.args.place ≡ i = omega arith in subst (Unbounded (g.S.Source.demanded b) (g.S.Source.parts b) t.limits t.parts.count t.parts.rows) same c.requires.late,
+    ) in
+    subst (λ v. Judged (g.S.Source.demanded b) (g.S.Source.parts b) t.limits t.parts.count t.parts.rows v c.args.bounds) (sym c.late.ensures) found
