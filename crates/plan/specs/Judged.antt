@@ -1,5 +1,5 @@
 -- What the judge finds: the verdict on a plan.
-use Rattle.std.specs.Prelude.{◌≡◌, ℕ, ◌+◌, ◌<◌, ◌≤◌, ◌⊎◌, List, None, Ok, Err, Result, slice_index}
+use Rattle.std.specs.Prelude.{◌≡◌, ℕ, ◌+◌, ◌-◌, ◌<◌, ◌≤◌, ◌⊎◌, List, None, Ok, Err, Result, slice_index}
 use Rattle.refusal.specs.declared.Fault.TheVariants as faults
 use Rattle.refusal.specs.declared.Refusal.{Refusal}
 use Rattle.paced.specs.declared.row.Row.{Row}
@@ -32,6 +32,12 @@ bounds_told (Accepted n) = n
 bounds_told NotJudgeable = 0
 bounds_told (Late i) = 0
 
+-- how many tasks have a window by that verdict: all, none, or those above the late one
+abbrev pub windows_told : Verdict → ℕ
+windows_told (Accepted n) = n
+windows_told NotJudgeable = 0
+windows_told (Late i) = i - 1
+
 module _ (d : ℕ → ℕ → ℕ) (n : ℕ) (limits : List Limit) (m : ℕ) (rows : List Row) where
   -- task i, counted from 0, has w as the smallest window that holds what it needs, within its deadline
   abbrev pub Bounded : ℕ → ℕ → Type 0
@@ -46,6 +52,11 @@ module _ (d : ℕ → ℕ → ℕ) (n : ℕ) (limits : List Limit) (m : ℕ) (ro
   Judged (Accepted k) bounds = (k ≡ m) × (1 ≤ m) × (n ≤ 16) × ((i : ℕ) → i < m → Bounded i (slice_index bounds i))
   Judged NotJudgeable bounds = (m ≡ 0) ⊎ (16 < n)
   Judged (Late k) bounds = (n ≤ 16) × (1 ≤ k) × (k ≤ m) × ((i : ℕ) → i + 1 < k → (w : ℕ) × Bounded i w) × ((i : ℕ) → i + 1 ≡ k → Unbounded i)
+
+  -- the list that goes with a verdict: the window of each task that has one by it, and 0 behind them
+  pub record Listed (v : Verdict) (bounds : List ℕ) : Type 0 where
+    pub windows : (i : ℕ) → i < windows_told v → Bounded i (slice_index bounds i)
+    pub rest : (i : ℕ) → windows_told v ≤ i → slice_index bounds i ≡ 0
 
 -- limits with the same blocking, and with no deadline of the first m tasks lower
 abbrev pub Raised : ℕ → List Limit → List Limit → Type 0

@@ -1,7 +1,7 @@
 // The judge: task after task, from the highest on, until one has no window within its deadline. Its clauses name what a verdict rests
 // on, the demand, the parts, the limits, the count and the rows of the tasks, since the definitions speak of no plan and no gate.
-ghost use Rattle.std.specs.Prelude.{ℕ, ◌<◌, ◌≤◌, slice_index};
-ghost use Rattle.plan.specs.Judged.{Bounded, Unbounded, Judged, OnlyJudged};
+ghost use Rattle.std.specs.Prelude.{◌≡◌, ℕ, ◌<◌, ◌≤◌, slice_index};
+ghost use Rattle.plan.specs.Judged.{Bounded, Unbounded, Judged, Listed, OnlyJudged};
 
 use crate::stages::OpenPlan;
 use crate::verdict::Verdict;
@@ -25,8 +25,10 @@ impl<S: Source> OpenPlan<S> {
         requires few { S.Source.parts self.now.bank ≤ 16 }
         requires task { place < self.now.tasks.parts.count }
         requires above { (i : ℕ) → i < place → Bounded (S.Source.demanded self.now.bank) (S.Source.parts self.now.bank) self.now.tasks.limits self.now.tasks.parts.count self.now.tasks.parts.rows i (slice_index bounds i) }
+        requires rest { (i : ℕ) → place ≤ i → slice_index bounds i ≡ 0 }
         requires late { Unbounded (S.Source.demanded self.now.bank) (S.Source.parts self.now.bank) self.now.tasks.limits self.now.tasks.parts.count self.now.tasks.parts.rows place }
-        ensures { Judged (S.Source.demanded self.now.bank) (S.Source.parts self.now.bank) self.now.tasks.limits self.now.tasks.parts.count self.now.tasks.parts.rows result.verdict result.bounds }
+        ensures judged { Judged (S.Source.demanded self.now.bank) (S.Source.parts self.now.bank) self.now.tasks.limits self.now.tasks.parts.count self.now.tasks.parts.rows result.verdict result.bounds }
+        ensures listed { Listed (S.Source.demanded self.now.bank) (S.Source.parts self.now.bank) self.now.tasks.limits self.now.tasks.parts.count self.now.tasks.parts.rows result.verdict result.bounds }
     {
         Finding {
             verdict: Verdict::late(place),
@@ -35,8 +37,10 @@ impl<S: Source> OpenPlan<S> {
     }
 
     // Judges one task after another.
+    #[tactic(auto, using(crate::proofs::Bounds::all_none))]
     fn find(&self) -> Finding
-        ensures { Judged (S.Source.demanded self.now.bank) (S.Source.parts self.now.bank) self.now.tasks.limits self.now.tasks.parts.count self.now.tasks.parts.rows result.verdict result.bounds }
+        ensures judged { Judged (S.Source.demanded self.now.bank) (S.Source.parts self.now.bank) self.now.tasks.limits self.now.tasks.parts.count self.now.tasks.parts.rows result.verdict result.bounds }
+        ensures listed { Listed (S.Source.demanded self.now.bank) (S.Source.parts self.now.bank) self.now.tasks.limits self.now.tasks.parts.count self.now.tasks.parts.rows result.verdict result.bounds }
     {
         let mut bounds = [0; 16];
         let count = self.tasks.count();
@@ -62,6 +66,7 @@ impl<S: Source> OpenPlan<S> {
     // What is found of the plan, with the law that nothing else can be found.
     pub(crate) fn verdict_on(&self) -> Finding
         ensures judged { Judged (S.Source.demanded self.now.bank) (S.Source.parts self.now.bank) self.now.tasks.limits self.now.tasks.parts.count self.now.tasks.parts.rows result.verdict result.bounds }
+        ensures listed { Listed (S.Source.demanded self.now.bank) (S.Source.parts self.now.bank) self.now.tasks.limits self.now.tasks.parts.count self.now.tasks.parts.rows result.verdict result.bounds }
         ensures only { OnlyJudged (S.Source.demanded self.now.bank) (S.Source.parts self.now.bank) self.now.tasks.limits self.now.tasks.parts.count self.now.tasks.parts.rows result.verdict result.bounds }
     {
         self.find()

@@ -1,7 +1,7 @@
 // A plan from open to judged. Each stage is used up by the next, so a judged plan takes no more tasks.
 ghost use Rattle.std.specs.Prelude.{◌≡◌, ◌+◌, ◌≤◌, min, ◌++◌, length, take, drop, replicate, Some, None, MatchResult, slice_set};
 ghost use Rattle.paced.specs.Makes.{fresh, unused};
-ghost use Rattle.plan.specs.Judged.{Judged, OnlyJudged, StaysAccepted, bounds_told};
+ghost use Rattle.plan.specs.Judged.{Judged, Listed, OnlyJudged, StaysAccepted, bounds_told};
 ghost use Rattle.plan.specs.Limits.{unlimited, task_fault};
 
 use crate::judge::Finding;
@@ -83,6 +83,7 @@ impl<S: Source> OpenPlan<S> {
         ensures bank { result.bank ≡ self.bank }
         ensures tasks { result.tasks ≡ self.tasks }
         ensures judged { Judged (S.Source.demanded self.bank) (S.Source.parts self.bank) self.tasks.limits self.tasks.parts.count self.tasks.parts.rows result.verdict result.bounds }
+        ensures listed { Listed (S.Source.demanded self.bank) (S.Source.parts self.bank) self.tasks.limits self.tasks.parts.count self.tasks.parts.rows result.verdict result.bounds }
         ensures only { OnlyJudged (S.Source.demanded self.bank) (S.Source.parts self.bank) self.tasks.limits self.tasks.parts.count self.tasks.parts.rows result.verdict result.bounds }
         ensures stays { StaysAccepted (S.Source.demanded self.bank) (S.Source.parts self.bank) self.tasks.limits self.tasks.parts.count self.tasks.parts.rows result.verdict result.bounds }
     {

@@ -1,4 +1,4 @@
-use Rattle.std.proofs.Common.{◌≡◌, ℕ, ◌<◌, length, get_or}
+use Rattle.std.proofs.Common.{◌≡◌, ℕ, ◌<◌, ◌≤◌, length, get_or}
 use Rattle.plan.specs.Judged.{Bounded}
 use Rattle.plan.proofs.stages.OpenPlan.find.Given as goal
 
@@ -6,3 +6,4 @@ abbrev pub invariant-loop-place : goal.invariant-loop-place
 invariant-loop-place g l =
     (length l.bounds ≡ 16)
     × ((i : ℕ) → i < l.place → Bounded (g.S.Source.demanded l.self.bank) (g.S.Source.parts l.self.bank) l.self.tasks.limits l.self.tasks.parts.count l.self.tasks.parts.rows i (get_or l.bounds i 0))
+    × ((i : ℕ) → l.place ≤ i → get_or l.bounds i 0 ≡ 0)

@@ -3,8 +3,8 @@ use Rattle.plan.specs.Judged.{Judged, Unbounded}
 use Rattle.plan.specs.declared.verdict.Verdict.TheVariants.{Late}
 use Rattle.plan.proofs.stages.OpenPlan.late.Goals as goal
 
-pub returns : goal.returns
-returns g c =
+pub returns-clause-judged : goal.returns-clause-judged
+returns-clause-judged g c =
     let b = c.args.self.now.bank in
     let t = c.args.self.now.tasks in
     let found : Judged (g.S.Source.demanded b) (g.S.Source.parts b) t.limits t.parts.count t.parts.rows (Late (c.args.place + 1)) c.args.bounds = (

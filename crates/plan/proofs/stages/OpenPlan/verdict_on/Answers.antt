@@ -6,6 +6,7 @@ returns g c =
     let b = c.args.self.now.bank in
     let t = c.args.self.now.tasks in
     record {
-      judged = c.find.ensures;
-      only = once (g.S.Source.demanded b) (g.S.Source.parts b) t.limits t.parts.count t.parts.rows c.find.result.verdict c.find.result.bounds c.find.ensures;
+      judged = c.find.ensures.judged;
+      listed = c.find.ensures.listed;
+      only = once (g.S.Source.demanded b) (g.S.Source.parts b) t.limits t.parts.count t.parts.rows c.find.result.verdict c.find.result.bounds c.find.ensures.judged;
     }
