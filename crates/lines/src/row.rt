@@ -21,8 +21,8 @@ pub struct Costs {
     pub count: usize,
 }
 
-// What a line says, number for number as it stands there. Offsets, lengths, periods, jitters, deadlines and holds are in ticks,
-// blocking and costs in units.
+// What a line says, number for number as it stands there. Offsets, cycles, periods, jitters and deadlines are in ticks; lengths
+// of pairs, costs, blocking and holds in units.
 #[derive(Clone, Copy)]
 pub enum Row {
     Cycle {

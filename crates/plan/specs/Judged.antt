@@ -54,7 +54,7 @@ module _ (d : ℕ → ℕ → ℕ) (n : ℕ) (limits : List Limit) (m : ℕ) (ro
   Judged (Late k) bounds = (n ≤ 16) × (1 ≤ k) × (k ≤ m) × ((i : ℕ) → i + 1 < k → (w : ℕ) × Bounded i w) × ((i : ℕ) → i + 1 ≡ k → Unbounded i)
 
   -- the list that goes with a verdict: the window of each task that has one by it, and 0 behind them
-  pub record Listed (v : Verdict) (bounds : List ℕ) : Type 0 where
+  pub record Filled (v : Verdict) (bounds : List ℕ) : Type 0 where
     pub windows : (i : ℕ) → i < windows_told v → Bounded i (slice_index bounds i)
     pub rest : (i : ℕ) → windows_told v ≤ i → slice_index bounds i ≡ 0
 

@@ -1,7 +1,7 @@
 // The judge: task after task, from the highest on, until one has no window within its deadline. Its clauses name what a verdict rests
 // on, the demand, the parts, the limits, the count and the rows of the tasks, since the definitions speak of no plan and no gate.
 ghost use Rattle.std.specs.Prelude.{◌≡◌, ℕ, ◌<◌, ◌≤◌, slice_index};
-ghost use Rattle.plan.specs.Judged.{Bounded, Unbounded, Judged, Listed, OnlyJudged};
+ghost use Rattle.plan.specs.Judged.{Bounded, Unbounded, Judged, Filled, OnlyJudged};
 
 use crate::stages::OpenPlan;
 use crate::verdict::Verdict;
@@ -10,11 +10,11 @@ use source::Source;
 // How many parts the bank of a plan may have.
 pub const BANK_PARTS: u32 = 16;
 
-// A verdict, and the bounds of the tasks if it is that they are accepted.
+// A verdict, and the list that goes with it: the bounds of the tasks, or of those above the late one, and 0 behind them.
 #[derive(Clone, Copy)]
 pub(crate) struct Finding {
     pub(crate) verdict: Verdict,
-    // the verdict says how many are in use: a rule of the project, which has fixed memory and no heap here
+    // the verdict says how many it has: a rule of the project, which has fixed memory and no heap here
     pub(crate) bounds: [u32; 16],
 }
 
@@ -28,7 +28,7 @@ impl<S: Source> OpenPlan<S> {
         requires rest { (i : ℕ) → place ≤ i → slice_index bounds i ≡ 0 }
         requires late { Unbounded (S.Source.demanded self.now.bank) (S.Source.parts self.now.bank) self.now.tasks.limits self.now.tasks.parts.count self.now.tasks.parts.rows place }
         ensures judged { Judged (S.Source.demanded self.now.bank) (S.Source.parts self.now.bank) self.now.tasks.limits self.now.tasks.parts.count self.now.tasks.parts.rows result.verdict result.bounds }
-        ensures listed { Listed (S.Source.demanded self.now.bank) (S.Source.parts self.now.bank) self.now.tasks.limits self.now.tasks.parts.count self.now.tasks.parts.rows result.verdict result.bounds }
+        ensures filled { Filled (S.Source.demanded self.now.bank) (S.Source.parts self.now.bank) self.now.tasks.limits self.now.tasks.parts.count self.now.tasks.parts.rows result.verdict result.bounds }
     {
         Finding {
             verdict: Verdict::late(place),
@@ -40,7 +40,7 @@ impl<S: Source> OpenPlan<S> {
     #[tactic(auto, using(crate::proofs::Bounds::all_none))]
     fn find(&self) -> Finding
         ensures judged { Judged (S.Source.demanded self.now.bank) (S.Source.parts self.now.bank) self.now.tasks.limits self.now.tasks.parts.count self.now.tasks.parts.rows result.verdict result.bounds }
-        ensures listed { Listed (S.Source.demanded self.now.bank) (S.Source.parts self.now.bank) self.now.tasks.limits self.now.tasks.parts.count self.now.tasks.parts.rows result.verdict result.bounds }
+        ensures filled { Filled (S.Source.demanded self.now.bank) (S.Source.parts self.now.bank) self.now.tasks.limits self.now.tasks.parts.count self.now.tasks.parts.rows result.verdict result.bounds }
     {
         let mut bounds = [0; 16];
         let count = self.tasks.count();
@@ -66,7 +66,7 @@ impl<S: Source> OpenPlan<S> {
     // What is found of the plan, with the law that nothing else can be found.
     pub(crate) fn verdict_on(&self) -> Finding
         ensures judged { Judged (S.Source.demanded self.now.bank) (S.Source.parts self.now.bank) self.now.tasks.limits self.now.tasks.parts.count self.now.tasks.parts.rows result.verdict result.bounds }
-        ensures listed { Listed (S.Source.demanded self.now.bank) (S.Source.parts self.now.bank) self.now.tasks.limits self.now.tasks.parts.count self.now.tasks.parts.rows result.verdict result.bounds }
+        ensures filled { Filled (S.Source.demanded self.now.bank) (S.Source.parts self.now.bank) self.now.tasks.limits self.now.tasks.parts.count self.now.tasks.parts.rows result.verdict result.bounds }
         ensures only { OnlyJudged (S.Source.demanded self.now.bank) (S.Source.parts self.now.bank) self.now.tasks.limits self.now.tasks.parts.count self.now.tasks.parts.rows result.verdict result.bounds }
     {
         self.find()

@@ -1,7 +1,7 @@
 // A plan from open to judged. Each stage is used up by the next, so a judged plan takes no more tasks.
 ghost use Rattle.std.specs.Prelude.{◌≡◌, ◌+◌, ◌≤◌, min, ◌++◌, length, take, drop, replicate, Some, None, MatchResult, slice_set};
 ghost use Rattle.paced.specs.Makes.{fresh, unused};
-ghost use Rattle.plan.specs.Judged.{Judged, Listed, OnlyJudged, StaysAccepted, bounds_told};
+ghost use Rattle.plan.specs.Judged.{Judged, Filled, OnlyJudged, StaysAccepted, bounds_told};
 ghost use Rattle.plan.specs.Limits.{unlimited, task_fault};
 
 use crate::judge::Finding;
@@ -18,14 +18,14 @@ pub struct OpenPlan<S> {
     pub(crate) tasks: Tasks,
 }
 
-// A plan with its verdict and, if it is accepted, the bound of each task: the judge's finding taken apart, since clauses and a run name
-// each by itself, and a field for both would only put a word before each.
+// A plan with its verdict and the bounds that go with it: the judge's finding taken apart, since clauses and a run name each by itself,
+// and a field for both would only put a word before each.
 #[derive(Drop)]
 pub struct JudgedPlan<S> {
     bank: S,
     tasks: Tasks,
     verdict: Verdict,
-    // the verdict says how many are in use: a rule of the project, which has fixed memory and no heap here
+    // the verdict says how many there are: a rule of the project, which has fixed memory and no heap here
     bounds: [u32; 16],
     ghost held: { length bounds ≡ 16 },
     ghost few: { bounds_told verdict ≤ 16 },
@@ -83,7 +83,7 @@ impl<S: Source> OpenPlan<S> {
         ensures bank { result.bank ≡ self.bank }
         ensures tasks { result.tasks ≡ self.tasks }
         ensures judged { Judged (S.Source.demanded self.bank) (S.Source.parts self.bank) self.tasks.limits self.tasks.parts.count self.tasks.parts.rows result.verdict result.bounds }
-        ensures listed { Listed (S.Source.demanded self.bank) (S.Source.parts self.bank) self.tasks.limits self.tasks.parts.count self.tasks.parts.rows result.verdict result.bounds }
+        ensures filled { Filled (S.Source.demanded self.bank) (S.Source.parts self.bank) self.tasks.limits self.tasks.parts.count self.tasks.parts.rows result.verdict result.bounds }
         ensures only { OnlyJudged (S.Source.demanded self.bank) (S.Source.parts self.bank) self.tasks.limits self.tasks.parts.count self.tasks.parts.rows result.verdict result.bounds }
         ensures stays { StaysAccepted (S.Source.demanded self.bank) (S.Source.parts self.bank) self.tasks.limits self.tasks.parts.count self.tasks.parts.rows result.verdict result.bounds }
     {

@@ -7,6 +7,6 @@ returns g c =
     let t = c.args.self.now.tasks in
     record {
       judged = c.find.ensures.judged;
-      listed = c.find.ensures.listed;
+      filled = c.find.ensures.filled;
       only = once (g.S.Source.demanded b) (g.S.Source.parts b) t.limits t.parts.count t.parts.rows c.find.result.verdict c.find.result.bounds c.find.ensures.judged;
     }
