@@ -72,10 +72,12 @@ impl<'a> Round<'a> {
         reach
     }
 
-    // The same window with its end moved on as far as it reaches in `ticks` ticks from the pair at a place.
+    // The same window with its end moved on as far as it reaches in `ticks` ticks from the pair that is at the place `start`.
+    // The pair is handed over: read again by its place, a search takes more than twice as long.
     #[tactic(auto, using(crate::proofs::Slots::window_is))]
-    fn moved_from(&self, reach: Reach, start: usize, ticks: u32) -> Reach
-        requires pair { start < length self.now.slots.now }
+    fn moved_from(&self, reach: Reach, start: usize, slot: Slot, ticks: u32) -> Reach
+        requires place { start < length self.now.slots.now }
+        requires pair { slot.offset ≡ offset_of self.now.slots.now start }
         requires ticks { ticks < self.now.cycle }
         requires end { reach.end ≤ length self.now.slots.now + start }
         requires sum { reach.sum ≡ sum (units_twice self.now.slots.now) reach.end }
@@ -85,7 +87,6 @@ impl<'a> Round<'a> {
         ensures before { (j : ℕ) → j < result.end → offset_twice self.now.slots.now self.now.cycle j < offset_of self.now.slots.now start + ticks }
         ensures met { sum (length_of self.now.slots.now) start + met_from self.now.cycle (length self.now.slots.now) self.now.slots.now ticks start ≡ sum (units_twice self.now.slots.now) result.end }
     {
-        let slot = self.slots[start];
         self.moved_on(reach, slot.offset + ticks, self.slots.len() + start)
     }
 
@@ -100,7 +101,7 @@ impl<'a> Round<'a> {
         let mut passed = 0;
         let mut reach = Reach { end: 0, sum: 0 };
         for (start, slot) in self.slots.iter().enumerate() {
-            reach = self.moved_from(reach, start, ticks);
+            reach = self.moved_from(reach, start, *slot, ticks);
             best = best.max(reach.sum - passed);
             passed += slot.length;
         }
