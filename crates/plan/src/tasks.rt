@@ -13,9 +13,10 @@ use paced::table::Table;
 use refusal::{Fault, first_fault};
 use source::{LONGEST, Source};
 
-// What a task has besides its paced part, each at most 1,000,000: for how many units lower tasks may block it, how many ticks, at least
-// one, a job may take from its release, and for how many units at a time the task itself may hold the processor. Pace and limits of a task are two
-// values, as its table keeps them: the paced parts of the tasks are a gate. Clauses name its three numbers as they name a pace's.
+// What a task has besides its paced part, each at most 1,000,000: for how many units lower tasks may block it, how many ticks, at
+// least one, a job may take from its release, and for how many units at a time the task itself may hold the processor. Pace and
+// limits of a task are two values, as its table keeps them: the paced parts of the tasks are a gate. Clauses name its three numbers
+// as they name a pace's.
 #[derive(Clone, Copy, Default)]
 pub struct Limit {
     pub blocking: u32,
