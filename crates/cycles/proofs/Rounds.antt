@@ -1,5 +1,6 @@
 -- What paced parts and schedules share: sums and largest runs round a cycle.
-use Rattle.std.proofs.Common.{◌≡◌, ℕ, zero, suc, ◌+◌, ◌-◌, ◌*◌, ◌/◌, ◌%◌, ◌<◌, ◌≤◌, max, cond, ltb, sym, refl, ap, ◌∙◌, subst, inl, inr, suc-add, div-add-mod', zero-add, add-one, arith}
+use Rattle.std.proofs.Common.{◌≡◌, ℕ, zero, suc, ◌+◌, ◌-◌, ◌*◌, ◌/◌, ◌%◌, ◌<◌, ◌≤◌, max, nat_cmp, cond, ltb, sym, refl, ap, ◌∙◌, subst, inl, inr, suc-add, div-add-mod', zero-add, add-one, arith}
+use Rattle.std.specs.Ordering.{ord_max}
 use Rattle.std.proofs.lemmas.Bool.{cases_lt}
 use Rattle.std.proofs.lemmas.Bool.Decides.{nat_tests}
 use Rattle.cycles.specs.Round.{sum, top, next, met, onward}
@@ -45,6 +46,12 @@ sum_on f i = ap (sum f) (add-one i)
 
 pub top_on : (f : ℕ → ℕ) (i : ℕ) → top f (i + 1) ≡ max (top f i) (f i)
 top_on f i = ap (top f) (add-one i)
+
+-- the larger of b, the largest of the first i, and of x, the next
+pub larger_next : (f : ℕ → ℕ) (i b x n : ℕ) → b ≡ top f i → x ≡ f i → n ≡ ord_max nat_cmp b x → n ≡ top f (i + 1)
+larger_next f i b x n b_is x_is n_is =
+    let larger : n ≡ max b x = grind arith in
+    omega (arith, larger, b_is, x_is, top_on f i)
 
 -- round the cycle
 

@@ -1,6 +1,7 @@
 -- The example holds.
 use Rattle.std.proofs.Common.{◌≡◌, ℕ, zero, suc, ◌+◌, ◌<◌, ◌≤◌, [], ◌∷◌, map, get_or, replicate, refl, arith, lit≤}
 use Rattle.std.proofs.lemmas.Bool.Decides.{nat_tests}
+use Rattle.cycles.proofs.Tables.{all_same}
 use Rattle.source.specs.Facts.{Sound, Taken, Driven}
 use Rattle.paced.specs.Pace.{Fit, given, later}
 use Rattle.paced.specs.Tables.{row_at}
@@ -14,7 +15,7 @@ use Rattle.run.specs.Steps.{grown, released, granted, due, passed}
 use Rattle.guarantee.specs.Playing.{Now, Played}
 use Rattle.guarantee.specs.Promise.{Acceptable, Modelled, begun}
 use Rattle.guarantee.specs.Views.{plan_of, view_of}
-use Rattle.guarantee.proofs.Promising.{all_same, modelled}
+use Rattle.guarantee.proofs.Promising.{modelled}
 use Rattle.guarantee.specs.Example.{store_allowed, store_demand, store_takes, store_ticks, only_row, only_limit, some_calls, their_answers, run_fixed, Example}
 
 sound : (s : ℕ) → Sound 1 store_demand (store_allowed s)

@@ -1,8 +1,6 @@
 -- A run of an acceptable plan keeps its promise.
 use Rattle.std.proofs.Common.{◌≡◌, ℕ, ◌+◌, ◌-◌, ◌<◌, ◌≤◌, Bool, true, false, cond, leb, List, length, get_or, replicate, Some, refl, ap, inl, inr, arith}
-use Rattle.std.proofs.lemmas.Bool.{cond-true, le-leb, cases_lt}
-use Rattle.std.proofs.lemmas.List.{get_or-replicate, length-replicate}
-use Rattle.std.proofs.Math.ListN.{get_or-eq_default}
+use Rattle.std.proofs.lemmas.Bool.{cond-true, le-leb}
 use Rattle.source.specs.Facts.{Sound, Driven}
 use Rattle.paced.specs.Pace.{Fit}
 use Rattle.paced.specs.Tables.{row_at}
@@ -12,6 +10,7 @@ use Rattle.plan.specs.Limits.{limit_at}
 use Rattle.plan.specs.declared.tasks.Limit.{Limit}
 use Rattle.plan.specs.declared.verdict.Verdict.{Verdict}
 use Rattle.plan.specs.declared.verdict.Verdict.TheVariants.{Accepted, NotJudgeable, Late}
+use Rattle.cycles.proofs.Tables.{all_same}
 use Rattle.calls.specs.Events.{Event, log_of}
 use Rattle.calls.specs.Rules.{NeverLate, NeverMore}
 use Rattle.calls.specs.States as model
@@ -42,10 +41,7 @@ accepted_bounds d n limits m rows (Accepted k) bounds j ok = (j.2, j.3)
 accepted_bounds d n limits m rows NotJudgeable bounds j ok = let z : ◌≡◌ {A = ℕ} 0 1 = cc in absurd (omega arith)
 accepted_bounds d n limits m rows (Late k) bounds j ok = let z : ◌≡◌ {A = ℕ} 0 1 = cc in absurd (omega arith)
 
--- a list of one value alone reads as that value
-pub all_same : {A : Type 0} (n i : ℕ) (d : A) → get_or (replicate n d) i d ≡ d
-all_same n i d = elim (cases_lt i n) [ inl within ↦ get_or-replicate n i d d within | inr past ↦ get_or-eq_default (replicate n d) d (omega (arith, length-replicate n d)) ]
-
+-- either of two values that are 0
 either_zero : (b : Bool) (x : ℕ) → x ≡ 0 → cond b x 0 ≡ 0
 either_zero true x h = h
 either_zero false x h = refl

@@ -1,10 +1,10 @@
 -- Successive costs: what the loops over them keep.
-use Rattle.std.proofs.Common.{◌≡◌, ℕ, ◌+◌, ◌-◌, ◌*◌, ◌<◌, ◌≤◌, max, nat_cmp, cond, ltb, List, length, take, sym, ap, ◌∙◌, arith}
+use Rattle.std.proofs.Common.{◌≡◌, ℕ, ◌+◌, ◌-◌, ◌*◌, ◌<◌, ◌≤◌, nat_cmp, cond, ltb, List, length, take, sym, ap, ◌∙◌, arith}
 use Rattle.std.specs.Ordering.{ord_max}
 use Rattle.std.proofs.lemmas.List.{length-take-le, get_or-take}
 use Rattle.std.proofs.lemmas.Bool.{lt-ltb}
 use Rattle.cycles.specs.Round.{sum, top, met, onward}
-use Rattle.cycles.proofs.Rounds.{top_on, met_slides, met_least, onward_at, sum_same, met_same, top_same}
+use Rattle.cycles.proofs.Rounds.{larger_next, met_slides, met_least, onward_at, sum_same, met_same, top_same}
 use Rattle.paced.specs.Runs.{at, largest, largest_from}
 
 -- place i of a cycle of n, where a loop over the places stands; after the last it is the first again
@@ -31,9 +31,7 @@ module _ (xs : List ℕ) (m i w b : ℕ) (within : i < length xs) (short : m < l
 
   -- the larger of b and w
   pub best_grows : b ≡ largest_from (length xs) xs m i → (c : ℕ) → c ≡ ord_max nat_cmp b w → c ≡ largest_from (length xs) xs m (i + 1)
-  best_grows h c e =
-      let larger : c ≡ max b w = grind arith in
-      omega (arith, larger, h, w_here, top_on (λ p. met (length xs) (at xs) p m) i)
+  best_grows h c e = larger_next (λ p. met (length xs) (at xs) p m) i b w c h w_here e
 
 -- the first n of some costs, as a part `costs[..n]` has them
 

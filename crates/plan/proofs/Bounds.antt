@@ -1,5 +1,5 @@
 -- The bounds that the judge has found so far.
-use Rattle.std.proofs.Common.{◌≡◌, ℕ, zero, suc, ◌+◌, ◌<◌, ◌≤◌, List, length, get_or, set, replicate, refl, sym, ◌∙◌, subst, inl, inr, arith, get_or-set_other, get_or-set_same}
+use Rattle.std.proofs.Common.{◌≡◌, ℕ, ◌+◌, ◌<◌, ◌≤◌, List, length, get_or, set, sym, ◌∙◌, subst, inl, inr, arith, get_or-set_other, get_or-set_same}
 use Rattle.std.proofs.lemmas.Bool.{cases_eq}
 
 -- one bound more, where each so far is right
@@ -13,9 +13,3 @@ bound_more P bounds k w room so_far here i h =
 -- and 0 behind them
 pub rest_more : (bounds : List ℕ) (k w : ℕ) → ((i : ℕ) → k ≤ i → get_or bounds i 0 ≡ 0) → (i : ℕ) → k + 1 ≤ i → get_or (set bounds k w) i 0 ≡ 0
 rest_more bounds k w rest i h = get_or-set_other bounds k i w 0 (λ e. omega arith) ∙ rest i (omega arith)
-
-pub all_none : (n i : ℕ) → ◌≡◌ {A = ℕ} (get_or (replicate n 0) i 0) 0
-all_none zero zero = refl
-all_none zero (suc i) = refl
-all_none (suc n) zero = refl
-all_none (suc n) (suc i) = all_none n i

@@ -37,7 +37,7 @@ impl<S: Source> OpenPlan<S> {
     }
 
     // Judges one task after another.
-    #[tactic(auto, using(crate::proofs::Bounds::all_none))]
+    #[tactic(auto, using(cycles::proofs::Tables::all_same))]
     fn find(&self) -> Finding
         ensures judged { Judged (S.Source.demanded self.now.bank) (S.Source.parts self.now.bank) self.now.tasks.limits self.now.tasks.parts.count self.now.tasks.parts.rows result.verdict result.bounds }
         ensures filled { Filled (S.Source.demanded self.now.bank) (S.Source.parts self.now.bank) self.now.tasks.limits self.now.tasks.parts.count self.now.tasks.parts.rows result.verdict result.bounds }

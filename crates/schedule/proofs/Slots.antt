@@ -1,10 +1,9 @@
 -- Pairs in a list.
-use Rattle.std.proofs.Common.{◌≡◌, ℕ, true, zero, suc, ◌+◌, ◌-◌, ◌*◌, ◌<◌, ◌≤◌, max, nat_cmp, eqb, ltb, List, length, get_or, set, replicate, sym, refl, ap, ◌∙◌, subst, inl, inr, arith, get_or-set_other, get_or-set_same}
-use Rattle.std.specs.Ordering.{ord_max}
+use Rattle.std.proofs.Common.{◌≡◌, ℕ, true, ◌+◌, ◌-◌, ◌*◌, ◌<◌, ◌≤◌, eqb, ltb, List, length, get_or, set, sym, ap, ◌∙◌, subst, inl, inr, arith, get_or-set_other, get_or-set_same}
 use Rattle.std.proofs.lemmas.Bool.{cond_both, cases_eq}
 use Rattle.std.proofs.lemmas.Bool.Decides.{nat_tests}
 use Rattle.cycles.specs.Round.{sum, top}
-use Rattle.cycles.proofs.Rounds.{sum_least, sum_on, sum_same, top_on}
+use Rattle.cycles.proofs.Rounds.{sum_least, sum_on, sum_same}
 use Rattle.schedule.specs.Windows.{from_pair, window_end, pairs_suffice}
 use Rattle.schedule.specs.Makes.{follows}
 use Rattle.schedule.specs.Phases.{none, offset_of, length_of, if_at, lengths_met}
@@ -21,9 +20,6 @@ module _ (slots : List Slot) (lengths : (i : ℕ) → length_of slots i ≤ 1000
   pub sum_small : (e : ℕ) → sum (length_of slots) e ≤ e * 1000000
   sum_small e = sum_least (length_of slots) e 1000000 (λ j _. lengths j)
 
-max_is : (b x n : ℕ) → n ≡ ord_max nat_cmp b x → n ≡ max b x
-max_is b x n e = grind arith
-
 -- from pair i on, once the end of the window is moved on to e
 module _ (c : ℕ) (slots : List Slot) (rising : (i j : ℕ) → i < j → j < length slots → offset_of slots i < offset_of slots j) (below : (i : ℕ) → i < length slots → offset_of slots i < c) where
   pub window_is : (r i e : ℕ) → Ends c slots (offset_of slots i + r) (length slots + i) e → i < length slots → r < c → sum (length_of slots) i + met_from c (length slots) slots r i ≡ sum (units_twice slots) e
@@ -38,20 +34,9 @@ module _ (c : ℕ) (slots : List Slot) (rising : (i j : ℕ) → i < j → j < l
   pub pairs_are_worst : (r : ℕ) → 0 < c → top (met_from c (length slots) slots r) (length slots) ≡ top (lengths_met c (length slots) slots r) c
   pairs_are_worst r pos = pairs_suffice c (length slots) (offset_of slots) (length_of slots) pos below rising r
 
--- the larger of the largest so far, which is that of the first i, and of the next
-pub larger_next : (f : ℕ → ℕ) (i b x n : ℕ) → b ≡ top f i → x ≡ f i → n ≡ ord_max nat_cmp b x → n ≡ top f (i + 1)
-larger_next f i b x n b_is x_is n_is = omega (arith, max_is b x n n_is, b_is, x_is, top_on f i)
-
 -- where a window ended lies before its end from the next pair
 pub before_next : (c : ℕ) (slots : List Slot) (r i e : ℕ) → ((j : ℕ) → j < e → offset_twice slots c j < offset_of slots i + r) → ((i j : ℕ) → i < j → j < length slots → offset_of slots i < offset_of slots j) → i + 1 < length slots → (j : ℕ) → j < e → offset_twice slots c j < offset_of slots (i + 1) + r
 before_next c slots r i e before rising next j l = omega (arith, before j l, rising i (i + 1) (omega arith) next)
-
--- an empty table of pairs
-pub none_at : (n i : ℕ) → get_or (replicate n none) i none ≡ none
-none_at zero zero = refl
-none_at zero (suc i) = refl
-none_at (suc n) zero = refl
-none_at (suc n) (suc i) = none_at n i
 
 -- the pairs at a phase, of which a loop has looked at the first i
 pub if_at_small : (slots : List Slot) (p i : ℕ) → ((i : ℕ) → length_of slots i ≤ 1000000) → if_at slots p i ≤ 1000000

@@ -92,7 +92,7 @@ impl<'a> Round<'a> {
 
     // The largest sum of lengths met in `ticks` ticks, fewer than the cycle has, from any phase on: the largest from a pair.
     // As the project wants it, a loop goes over the pairs with their index, sums and keeps the largest.
-    #[tactic(auto, using(crate::proofs::Slots::sum_small, crate::proofs::Slots::pairs_are_worst, crate::proofs::Slots::larger_next, crate::proofs::Slots::before_next))]
+    #[tactic(auto, using(crate::proofs::Slots::sum_small, crate::proofs::Slots::pairs_are_worst, cycles::proofs::Rounds::larger_next, crate::proofs::Slots::before_next))]
     pub(crate) fn largest_met(&self, ticks: u32) -> u32
         requires { ticks < self.now.cycle }
         ensures { result ≡ top (lengths_met self.now.cycle (length self.now.slots.now) self.now.slots.now ticks) self.now.cycle }
