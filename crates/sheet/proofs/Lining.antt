@@ -1,6 +1,7 @@
 -- A sheet line by line.
-use Rattle.std.proofs.Common.{◌≡◌, ℕ, ◌+◌, ◌≤◌, eqb, leb, List, [], ◌∷◌, length, Some, None, Err, Option, sym, refl, ap, ◌∙◌, subst, arith}
+use Rattle.std.proofs.Common.{◌≡◌, ℕ, ◌+◌, ◌≤◌, eqb, leb, List, [], ◌∷◌, length, Some, None, Err, Option, Result, sym, refl, ap, ◌∙◌, subst, arith}
 use Rattle.std.proofs.lemmas.Bool.{le-leb, ne_eqb, cond-true, cond-false}
+use Rattle.refusal.specs.declared.Refusal.{Refusal}
 use Rattle.refusal.specs.declared.Fault.TheVariants.{SheetTooLong, ForeignByte}
 use Rattle.words.specs.Split.{before, onward, pieces, following, joined}
 use Rattle.words.proofs.Cutting.{pieces_first, only_cut}
@@ -24,3 +25,7 @@ module _ (n : ℕ) (o : Option Plan) where
       let whole : before 10 rest ≡ rest = sym (ap (joined 10) alone) ∙ (only_cut 10 rest).0.whole in
       ap (read_on n o) alone
       ∙ cond-false (eqb (length (before 10 rest)) 0) (ended n o) (Err (on_line (n + 1) (plain ForeignByte))) (ne_eqb (length (before 10 rest)) 0 (λ z. omega (arith, ap length whole)))
+
+-- a sheet whose first line makes r: with a refusal it ends there, and else it goes on behind the line
+pub first_makes : (sheet line more : List ℕ) (r : Result Plan Refusal) → length sheet ≤ 16384 → line ≡ before 10 sheet → 10 ∷ more ≡ onward 10 sheet → step 1 None line ≡ r → read sheet ≡ and_then r (λ p. read_on 1 (Some p) (pieces 10 more))
+first_makes sheet line more r h e f made = short_enough sheet h ∙ line_first 0 None sheet line more e f ∙ ap (λ r. and_then r (λ p. read_on 1 (Some p) (pieces 10 more))) made

@@ -1,9 +1,7 @@
-use Rattle.std.proofs.Common.{◌≤◌, length, Some, None, Err, sym, ap, ◌∙◌, arith}
+use Rattle.std.proofs.Common.{◌≤◌, length, None, Err, sym, ap, ◌∙◌, arith}
 use Rattle.std.proofs.lemmas.Result.{err_from_is_err_and}
 use Rattle.std.proofs.lemmas.Bool.{eqb-false}
-use Rattle.words.specs.Split.{pieces}
-use Rattle.sheet.specs.Reading.{and_then, read_on}
-use Rattle.sheet.proofs.Lining.{short_enough, line_first, line_open}
+use Rattle.sheet.proofs.Lining.{short_enough, line_open, first_makes}
 use Rattle.sheet.proofs.reading.read.Goals as goal
 
 pub returns-in_err-bytes : goal.returns-in_err-bytes
@@ -17,37 +15,19 @@ returns-in_err-bytes c =
 
 pub returns-in_err-draft : goal.returns-in_err-draft
 returns-in_err-draft c =
-    let sheet = c.args.sheet.now in
-    let rest = c.in_ok-bytes.rest.now in
     let line = c.in_ok-bytes.ensures in
     let p = err_from_is_err_and c.from_residual-in_err-draft.result c.from_residual-in_err-draft.ensures.1 in
     rw (p.1, p.2)
-    (
-    short_enough sheet c.if-sheet-gt-LONGEST_SHEET.false
-    ∙ line_first 0 None sheet c.in_ok-bytes.bytes.now rest line.0 line.1
-    ∙ ap (λ r. and_then r (λ q. read_on 1 (Some q) (pieces 10 rest))) c.in_err-draft.ensures
-    )
+    (first_makes c.args.sheet.now c.in_ok-bytes.bytes.now c.in_ok-bytes.rest.now _ c.if-sheet-gt-LONGEST_SHEET.false line.0 line.1 c.in_err-draft.ensures)
 
 pub returns-in_err-lines : goal.returns-in_err-lines
 returns-in_err-lines c =
-    let sheet = c.args.sheet.now in
-    let rest = c.in_ok-bytes.rest.now in
     let line = c.in_ok-bytes.ensures in
     let p = err_from_is_err_and c.from_residual-in_err-lines.result c.from_residual-in_err-lines.ensures.1 in
     rw (p.1, p.2)
-    (
-    short_enough sheet c.if-sheet-gt-LONGEST_SHEET.false
-    ∙ line_first 0 None sheet c.in_ok-bytes.bytes.now rest line.0 line.1
-    ∙ ap (λ r. and_then r (λ q. read_on 1 (Some q) (pieces 10 rest))) c.in_ok-draft.ensures
-    ∙ c.in_err-lines.ensures
-    )
+    (first_makes c.args.sheet.now c.in_ok-bytes.bytes.now c.in_ok-bytes.rest.now _ c.if-sheet-gt-LONGEST_SHEET.false line.0 line.1 c.in_ok-draft.ensures ∙ c.in_err-lines.ensures)
 
 pub returns : goal.returns
 returns c =
-    let sheet = c.args.sheet.now in
-    let rest = c.in_ok-bytes.rest.now in
     let line = c.in_ok-bytes.ensures in
-    short_enough sheet c.if-sheet-gt-LONGEST_SHEET.false
-    ∙ line_first 0 None sheet c.in_ok-bytes.bytes.now rest line.0 line.1
-    ∙ ap (λ r. and_then r (λ q. read_on 1 (Some q) (pieces 10 rest))) c.in_ok-draft.ensures
-    ∙ c.in_ok-lines.ensures
+    first_makes c.args.sheet.now c.in_ok-bytes.bytes.now c.in_ok-bytes.rest.now _ c.if-sheet-gt-LONGEST_SHEET.false line.0 line.1 c.in_ok-draft.ensures ∙ c.in_ok-lines.ensures
