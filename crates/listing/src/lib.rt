@@ -9,6 +9,3 @@ mod write;
 pub use lines::layer_name;
 pub use marks::{Listing, Marks, TaskMark};
 pub use write::{ROOM, write_listing};
-
-#[cfg(test)]
-mod tests;

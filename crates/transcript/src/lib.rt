@@ -6,6 +6,3 @@ mod telling;
 
 pub use reading::call_of;
 pub use telling::Line;
-
-#[cfg(test)]
-mod tests;

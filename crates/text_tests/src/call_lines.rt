@@ -1,10 +1,10 @@
 // Lines written out by hand.
-use crate::*;
 use calls::{Answer, Call, Got};
 use refusal::{Fault, Refusal};
 use std::alloc::Global;
 use std::process::Abort;
 use std::test::Fail;
+use transcript::{Line, call_of};
 
 // The answer prints as this text.
 fn expect(rt: &impl Abort, alloc: Global, answer: Answer, text: &str) -> Result<(), Fail> {

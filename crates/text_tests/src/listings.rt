@@ -1,5 +1,5 @@
 // Listings written out by hand.
-use crate::*;
+use listing::{Listing, Marks, TaskMark, write_listing};
 use refusal::{Fault, Refusal};
 use std::process::Abort;
 use std::test::Fail;
