@@ -1,6 +1,7 @@
 -- A run of an acceptable plan keeps its promise.
 use Rattle.std.proofs.Common.{◌≡◌, ℕ, ◌+◌, ◌-◌, ◌<◌, ◌≤◌, Bool, true, false, cond, leb, List, length, get_or, replicate, Some, refl, ap, inl, inr, arith}
 use Rattle.std.proofs.lemmas.Bool.{cond-true, le-leb}
+use Rattle.cycles.proofs.Tables.{all_same}
 use Rattle.source.specs.Facts.{Sound, Driven}
 use Rattle.paced.specs.Pace.{Fit}
 use Rattle.paced.specs.Tables.{row_at}
@@ -10,7 +11,6 @@ use Rattle.plan.specs.Limits.{limit_at}
 use Rattle.plan.specs.declared.tasks.Limit.{Limit}
 use Rattle.plan.specs.declared.verdict.Verdict.{Verdict}
 use Rattle.plan.specs.declared.verdict.Verdict.TheVariants.{Accepted, NotJudgeable, Late}
-use Rattle.cycles.proofs.Tables.{all_same}
 use Rattle.calls.specs.Events.{Event, log_of}
 use Rattle.calls.specs.Rules.{NeverLate, NeverMore}
 use Rattle.calls.specs.States as model
