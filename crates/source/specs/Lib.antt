@@ -1,3 +1,4 @@
 pub mod Facts
 pub mod Sides
+pub mod Rows
 pub mod Besides

@@ -1,8 +1,7 @@
 // Two sources, or two gates, side by side: again one.
-ghost use Rattle.std.specs.Prelude.{◌≡◌, ℕ, ◌-◌, ◌≤◌, true, false, cond, ◌&&◌, Some, None, MatchBool, nat_le};
-ghost use Rattle.source.specs.Facts.{is_part, Sound, Kept, Taken, Ticked, Driven};
-ghost use Rattle.source.specs.Sides.{both, beside};
-ghost use Rattle.source.specs.Besides.{beside_sound, beside_taken, beside_driven};
+ghost use Rattle.std.specs.Prelude.{◌≡◌};
+ghost use Rattle.source.specs.Sides.{both, beside, TakesBeside};
+ghost use Rattle.source.specs.Besides.{beside_sound, pair_taken, pair_ticked};
 
 use crate::{Gate, MOST_PARTS, Source};
 
@@ -23,13 +22,11 @@ impl<A, B> Pair<A, B> {
 }
 
 impl<A: Source, B: Source> Source for Pair<A, B> {
-    ghost parts = { λ s. both (A.Source.parts s.left) (B.Source.parts s.right) };
+    ghost work = { λ s. both (A.work s.left) (B.work s.right) };
 
-    ghost demanded = { λ s. beside (A.Source.parts s.left) (A.Source.demanded s.left) (B.Source.demanded s.right) };
+    ghost allowed = { λ s. beside (A.work s.left).parts (A.allowed s.left) (B.allowed s.right) };
 
-    ghost allowed = { λ s. beside (A.Source.parts s.left) (A.Source.allowed s.left) (B.Source.allowed s.right) };
-
-    ghost sound = { λ s. beside_sound _ _ _ _ _ _ (A.Source.sound s.left) (B.Source.sound s.right) };
+    ghost sound = { λ s. beside_sound _ _ _ _ (A.sound s.left) (B.sound s.right) };
 
     fn count(&self) -> u32 {
         (self.left.count() + self.right.count()).min(MOST_PARTS)
@@ -60,13 +57,14 @@ impl<A: Source, B: Source> Source for Pair<A, B> {
 }
 
 impl<A: Gate, B: Gate> Gate for Pair<A, B> {
-    ghost takes = { λ s k u t. MatchBool (nat_le k (A.Source.parts s.left)) (A.Gate.takes s.left k u t.left × (t.right ≡ s.right)) ((k ≤ 1000) × B.Gate.takes s.right (k - A.Source.parts s.left) u t.right × (t.left ≡ s.left)) };
-
-    ghost ticks = { λ s t. A.Gate.ticks s.left t.left × B.Gate.ticks s.right t.right };
+    ghost moves = { record {
+      takes = λ s k u t. TakesBeside A.moves B.moves (A.Source.work s.left).parts s.left s.right k u t.left t.right;
+      ticks = λ s t. A.moves.ticks s.left t.left × B.moves.ticks s.right t.right;
+    } };
 
     ghost driven = { record {
-      taken = λ s t k u h. beside_taken _ _ _ _ _ _ _ _ _ _ A.Gate.driven B.Gate.driven s.left t.left s.right t.right k u h;
-      ticked = λ s t h. beside_driven _ _ _ _ _ _ _ _ _ _ A.Gate.driven B.Gate.driven s.left t.left s.right t.right h;
+      taken = λ s t k u h. pair_taken _ _ _ _ _ _ A.driven B.driven s.left t.left s.right t.right k u h;
+      ticked = λ s t h. pair_ticked _ _ _ _ _ _ A.driven B.driven s.left t.left s.right t.right h;
     } };
 
     fn offer(&mut self, part: u32, units: u64) -> bool {
