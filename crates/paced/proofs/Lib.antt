@@ -1,2 +1,3 @@
 pub mod Makings
 pub mod Runs
+pub mod Ticks

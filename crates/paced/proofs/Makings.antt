@@ -4,7 +4,7 @@ use Rattle.std.proofs.lemmas.List.{length-append, length-replicate}
 use Rattle.std.proofs.lemmas.Bool.{leb-true, ltb-true, and_parts}
 use Rattle.refusal.specs.declared.Fault.TheVariants.{TooMany, OutOfRange, Misfit}
 use Rattle.paced.specs.Pace.{Fit}
-use Rattle.paced.specs.Makes.{in_range, all_in_range, given_right, fault_of, fresh}
+use Rattle.paced.specs.Makes.{Asked, in_range, all_in_range, given_right, fault_of, fresh}
 
 -- what no fault is found with makes a part that is fit
 
@@ -26,34 +26,34 @@ pub passed : {F : Type 0} (b : Bool) (x : Option F) (f : F) → cond b x (Some f
 passed true x f e = (refl, e)
 passed false x f e = let z : ◌≡◌ {A = ℕ} 0 1 = cc in absurd (omega arith)
 
-pub fresh_fit : (t j : ℕ) (xs : List ℕ) → fault_of t j xs ≡ None → Fit (fresh t j xs)
-fresh_fit t j xs e =
+pub fresh_fit : (a : Asked) → fault_of a ≡ None → Fit (fresh a)
+fresh_fit a e =
     record {
-      paces = (leb-true 1 t t_in.0, leb-true t 1000000 t_in.1, ltb-true j t below);
-      places = (held, few, leb-true 1 (length xs) some.0, omega arith);
-      costs = padded_small xs (8 - length xs) (range_at xs some.1);
+      paces = (leb-true 1 a.period t_in.0, leb-true a.period 1000000 t_in.1, ltb-true a.jitter a.period below);
+      places = (held, few, leb-true 1 (length a.costs) some.0, omega arith);
+      costs = padded_small a.costs (8 - length a.costs) (range_at a.costs some.1);
     }
   where
-    after_length : (leb (length xs) 8 ≡ true) × (cond (given_right t j xs) (cond (ltb j t) None (Some Misfit)) (Some OutOfRange) ≡ None)
-    after_length = passed (leb (length xs) 8) (cond (given_right t j xs) (cond (ltb j t) None (Some Misfit)) (Some OutOfRange)) TooMany e
+    after_length : (leb (length a.costs) 8 ≡ true) × (cond (given_right a) (cond (ltb a.jitter a.period) None (Some Misfit)) (Some OutOfRange) ≡ None)
+    after_length = passed (leb (length a.costs) 8) (cond (given_right a) (cond (ltb a.jitter a.period) None (Some Misfit)) (Some OutOfRange)) TooMany e
 
-    after_numbers : (given_right t j xs ≡ true) × (cond (ltb j t) None (Some Misfit) ≡ None)
-    after_numbers = passed (given_right t j xs) (cond (ltb j t) None (Some Misfit)) OutOfRange after_length.1
+    after_numbers : (given_right a ≡ true) × (cond (ltb a.jitter a.period) None (Some Misfit) ≡ None)
+    after_numbers = passed (given_right a) (cond (ltb a.jitter a.period) None (Some Misfit)) OutOfRange after_length.1
 
-    right : given_right t j xs ≡ true
+    right : given_right a ≡ true
     right = after_numbers.0
 
-    below : ltb j t ≡ true
-    below = (passed (ltb j t) None Misfit after_numbers.1).0
+    below : ltb a.jitter a.period ≡ true
+    below = (passed (ltb a.jitter a.period) None Misfit after_numbers.1).0
 
-    few : length xs ≤ 8
-    few = leb-true (length xs) 8 after_length.0
+    few : length a.costs ≤ 8
+    few = leb-true (length a.costs) 8 after_length.0
 
-    t_in : (leb 1 t ≡ true) × (leb t 1000000 ≡ true)
-    t_in = and_parts (leb 1 t) (leb t 1000000) (and_parts (in_range t) (leb j 1000000 && (leb 1 (length xs) && all_in_range xs)) right).0
+    t_in : (leb 1 a.period ≡ true) × (leb a.period 1000000 ≡ true)
+    t_in = and_parts (leb 1 a.period) (leb a.period 1000000) (and_parts (in_range a.period) (leb a.jitter 1000000 && (leb 1 (length a.costs) && all_in_range a.costs)) right).0
 
-    some : (leb 1 (length xs) ≡ true) × (all_in_range xs ≡ true)
-    some = and_parts (leb 1 (length xs)) (all_in_range xs) (and_parts (leb j 1000000) (leb 1 (length xs) && all_in_range xs) (and_parts (in_range t) (leb j 1000000 && (leb 1 (length xs) && all_in_range xs)) right).1).1
+    some : (leb 1 (length a.costs) ≡ true) × (all_in_range a.costs ≡ true)
+    some = and_parts (leb 1 (length a.costs)) (all_in_range a.costs) (and_parts (leb a.jitter 1000000) (leb 1 (length a.costs) && all_in_range a.costs) (and_parts (in_range a.period) (leb a.jitter 1000000 && (leb 1 (length a.costs) && all_in_range a.costs)) right).1).1
 
-    held : length (xs ++ replicate (8 - length xs) 0) ≡ 8
-    held = length-append xs (replicate (8 - length xs) 0) ∙ ap (λ n. length xs + n) (length-replicate (8 - length xs) 0) ∙ omega (arith, few)
+    held : length (a.costs ++ replicate (8 - length a.costs) 0) ≡ 8
+    held = length-append a.costs (replicate (8 - length a.costs) 0) ∙ ap (λ n. length a.costs + n) (length-replicate (8 - length a.costs) 0) ∙ omega (arith, few)

@@ -3,5 +3,4 @@ pub mod Makes
 pub mod Pace
 pub mod Runs
 pub mod Tables
-pub mod Together
 pub mod Rows

@@ -4,6 +4,7 @@ use Rattle.std.specs.Prelude.{ℕ, ◌-◌, Bool, cond, ◌&&◌, List, ◌++◌
 use Rattle.std.specs.List.{list_all}
 use Rattle.refusal.specs.declared.Fault.{Fault}
 use Rattle.refusal.specs.declared.Fault.TheVariants.{TooMany, OutOfRange, Misfit}
+use Rattle.paced.specs.declared.row.Pace.{Pace}
 use Rattle.paced.specs.declared.row.Row.{Row}
 
 -- from 1 to 1,000,000
@@ -13,21 +14,31 @@ in_range x = nat_le 1 x && nat_le x 1000000
 abbrev pub all_in_range : List ℕ → Bool
 all_in_range costs = list_all in_range costs
 
+-- what is asked of a paced part: its period and jitter in ticks, and its costs in units
+pub record Asked : Type 0 where
+  pub period : ℕ
+  pub jitter : ℕ
+  pub costs : List ℕ
+
+-- what a pace asks
+abbrev pub asked : Pace → Asked
+asked p = record { period = p.period; jitter = p.jitter; costs = p.costs.now }
+
 -- period, jitter and costs are numbers that may be given
-abbrev pub given_right : ℕ → ℕ → List ℕ → Bool
-given_right t j costs = in_range t && (nat_le j 1000000 && (nat_le 1 (length costs) && all_in_range costs))
+abbrev pub given_right : Asked → Bool
+given_right a = in_range a.period && (nat_le a.jitter 1000000 && (nat_le 1 (length a.costs) && all_in_range a.costs))
 
 -- what is wrong with them, the fault with the smallest number first
-abbrev pub fault_of : ℕ → ℕ → List ℕ → Option Fault
-fault_of t j costs = cond (nat_le (length costs) 8) (cond (given_right t j costs) (cond (nat_lt j t) None (Some Misfit)) (Some OutOfRange)) (Some TooMany)
+abbrev pub fault_of : Asked → Option Fault
+fault_of a = cond (nat_le (length a.costs) 8) (cond (given_right a) (cond (nat_lt a.jitter a.period) None (Some Misfit)) (Some OutOfRange)) (Some TooMany)
 
 -- the part made of them: level and place are 0
-abbrev pub fresh : ℕ → ℕ → List ℕ → Row
-fresh t j costs = record { period = t; jitter = j; count = length costs; costs = costs ++ replicate (8 - length costs) 0; level = 0; place = 0 }
+abbrev pub fresh : Asked → Row
+fresh a = record { period = a.period; jitter = a.jitter; count = length a.costs; costs = a.costs ++ replicate (8 - length a.costs) 0; level = 0; place = 0 }
 
 -- what is wrong with one more part in a table of n that has room for `most`
-abbrev pub adding : ℕ → ℕ → ℕ → ℕ → List ℕ → Option Fault
-adding most n t j costs = cond (nat_lt n most) (fault_of t j costs) (Some TooMany)
+abbrev pub adding : ℕ → ℕ → Asked → Option Fault
+adding most n a = cond (nat_lt n most) (fault_of a) (Some TooMany)
 
 -- a place of a table that has no part
 abbrev pub unused : Row

@@ -2,6 +2,7 @@
 -- say what was offered so far.
 use Rattle.std.specs.Prelude.{◌≡◌, ℕ, zero, suc, ◌+◌, ◌-◌, ◌/◌, ◌<◌, ◌≤◌, cond, [], length, nat_le}
 use Rattle.cycles.specs.Round.{top, next, met}
+use Rattle.source.specs.Rows.{Kind}
 use Rattle.paced.specs.Runs.{at, largest}
 use Rattle.paced.specs.declared.row.Row.{Row}
 
@@ -62,3 +63,7 @@ pub record Fit (r : Row) : Type 0 where
 -- what a look-up past the end of a table reads
 abbrev pub blank : Row
 blank = record { period = 0; jitter = 0; count = 0; costs = []; level = 0; place = 0 }
+
+-- paced rows, as a kind of row
+abbrev pub paced : Kind Row
+paced = record { demand = demand; allowance = allowance; given = λ r _. given r; later = later; blank = blank }

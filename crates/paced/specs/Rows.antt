@@ -7,7 +7,8 @@ use Rattle.std.proofs.lemmas.Bool.{leb-true, le-leb, cond-true, cond-false, cond
 use Rattle.cycles.specs.Round.{sum, next}
 use Rattle.cycles.proofs.Rounds.{top_least, top_at, top_rises, top_split, met_rises, met_least, next_within}
 use Rattle.paced.specs.Runs.{at, largest}
-use Rattle.paced.specs.Pace.{run, arrivals, coming, demand, allowance, given, later, Fit}
+use Rattle.source.specs.Rows.{Owes}
+use Rattle.paced.specs.Pace.{run, arrivals, coming, demand, allowance, given, later, Fit, paced}
 use Rattle.paced.specs.declared.row.Row.{Row}
 
 div_rises : (a b t : ℕ) → 0 < t → a ≤ b → a / t ≤ b / t
@@ -115,3 +116,37 @@ later_fit r fit = record { paces = fit.paces; places = (fit.places.0, fit.places
 pub arrivals_in : (r : Row) (l : ℕ) → (l ≢ 0) → arrivals r 0 l ≡ coming r l
 arrivals_in r zero h = absurd (h refl)
 arrivals_in r (suc l) h = ap (λ k. k / r.period + 1) (omega arith)
+
+demand_given : (r : Row) (l : ℕ) → demand (given r) l ≡ demand r l
+demand_given r zero = refl
+demand_given r (suc l) = refl
+
+demand_later : (r : Row) (l : ℕ) → demand (later r) l ≡ demand r l
+demand_later r zero = refl
+demand_later r (suc l) = refl
+
+-- where a unit may be offered, the level is at most the jitter
+pub level_low : (r : Row) → Fit r → 1 ≤ allowance r 1 → r.level ≤ r.jitter
+level_low r fit some = elim (cases_Bool (nat_le r.level r.jitter)) [
+  | inl e ↦ leb-true r.level r.jitter e
+  | inr e ↦ absurd (omega (arith, some, allowance_one r fit, cond-false (nat_le r.level r.jitter) (at r.costs r.place) 0 e))
+]
+
+-- what paced rows owe, and so a table of them
+pub paced_owes : Owes paced Fit
+paced_owes =
+    record {
+      none = λ r _. demand_none r;
+      rises = λ r l m fit h. demand_rises r l m fit h;
+      small = λ r l fit h. omega (arith, demand_small r l fit h);
+      within = allowance_within_fit;
+      given_demand = λ r u l. demand_given r l;
+      given_within = λ r u l fit some units h. given_within r u l fit some units h;
+      given_fit = λ r u fit some units. given_fit r fit (level_low r fit (omega arith));
+      later_demand = demand_later;
+      later_shorter = λ r l fit. later_shorter r l fit;
+      later_fit = later_fit;
+    }
+  where
+    allowance_within_fit : (r : Row) (l : ℕ) → Fit r → allowance r l ≤ demand r l
+    allowance_within_fit r l fit = allowance_within r l fit

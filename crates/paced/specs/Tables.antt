@@ -1,35 +1,36 @@
--- Tables of paced rows, whose parts are numbered from 1: n rows, kept anyhow, as a function from the place in the table.
-use Rattle.std.specs.Prelude.{◌≡◌, ℕ, ◌-◌, true, cond, List, map, slice_index_or, slice_set}
-use Rattle.source.specs.Facts.{is_part, offerable}
-use Rattle.paced.specs.Pace.{demand, allowance, given, later, blank}
+-- Tables of paced parts: lists of rows, whose parts are numbered from 1; and what is seen of a table, and of a single part.
+use Rattle.std.specs.Prelude.{ℕ, ◌-◌, ◌≤◌, min, cond, List, All, Option, Some, None, length}
+use Rattle.source.specs.Facts.{Work, is_part}
+use Rattle.source.specs.Rows.{row_of, work_of, allowed_of}
+use Rattle.paced.specs.Pace.{Fit, paced}
 use Rattle.paced.specs.declared.row.Row.{Row}
 
+-- the row at place i, counted from 0
 abbrev pub row_at : List Row → ℕ → Row
-row_at rows i = slice_index_or rows i blank
+row_at rows i = row_of paced rows i
 
-abbrev pub demands_of : ℕ → (ℕ → Row) → ℕ → ℕ → ℕ
-demands_of n rows k l = cond (is_part n k) (demand (rows (k - 1)) l) 0
+-- what the rows bring as parts, and what they may still bring
+abbrev pub work_in : List Row → Work
+work_in rows = work_of paced rows
 
-abbrev pub allowances_of : ℕ → (ℕ → Row) → ℕ → ℕ → ℕ
-allowances_of n rows k l = cond (is_part n k) (allowance (rows (k - 1)) l) 0
+abbrev pub allowances_in : List Row → ℕ → ℕ → ℕ
+allowances_in rows = allowed_of paced rows
 
--- the table of a single part
-abbrev pub only : Row → ℕ → Row
-only r i = r
+-- the row of part k, if there is such a part
+abbrev pub part_at : List Row → ℕ → Option Row
+part_at rows k = cond (is_part (length rows) k) (Some (row_at rows (k - 1))) None
 
--- a single part takes an offer of u units
-pub record GivesOne (r : Row) (k u : ℕ) (r' : Row) : Type 0 where
-  pub part : k ≡ 1
-  pub offered : offerable 1 (allowances_of 1 (only r)) k u ≡ true
-  pub moved : r' ≡ given r
+-- what f tells of part k, if there is such a part
+abbrev pub told_of : (Row → ℕ) → List Row → ℕ → Option ℕ
+told_of f rows k = cond (is_part (length rows) k) (Some (f (row_at rows (k - 1)))) None
 
--- a table takes an offer of u units at part k: the row of that part moves on, and nothing else
-pub record Gives (n : ℕ) (rows : List Row) (k u : ℕ) (n' : ℕ) (rows' : List Row) : Type 0 where
-  pub offered : offerable n (allowances_of n (row_at rows)) k u ≡ true
-  pub count : n' ≡ n
-  pub moved : rows' ≡ slice_set rows (k - 1) (given (row_at rows (k - 1)))
+-- what is seen of a single paced part: its row, which is fit
+pub record FitRow : Type 0 where
+  pub row : Row
+  pub fit : Fit row
 
--- a tick for every row of a table
-pub record Passes (n : ℕ) (rows : List Row) (n' : ℕ) (rows' : List Row) : Type 0 where
-  pub count : n' ≡ n
-  pub lowered : rows' ≡ map later rows
+-- what is seen of a table with so much room: its rows, which are fit, and not more than a source may have parts
+pub record FitRows (room : ℕ) : Type 0 where
+  pub list : List Row
+  pub few : length list ≤ min room 1000
+  pub fit : All Fit list

@@ -1,7 +1,8 @@
 // One row of paced work, and what a table of such rows asks of each.
-ghost use Rattle.std.specs.Prelude.{◌≡◌, ℕ, ◌-◌, ◌<◌, ◌≤◌, ◌++◌, length, replicate, IfOk, if◌then◌else◌, Some, None, MatchResult, nat_le, nat_lt};
+ghost use Rattle.std.specs.Prelude.{◌≡◌, ℕ, ◌-◌, ◌<◌, ◌≤◌, ◌++◌, length, replicate, IfOk, if◌then◌else◌, nat_le, nat_lt};
+ghost use Rattle.std.specs.Result.{result_err};
 ghost use Rattle.cycles.specs.Round.{sum, top};
-ghost use Rattle.paced.specs.Makes.{in_range, all_in_range, given_right, fault_of, fresh};
+ghost use Rattle.paced.specs.Makes.{asked, in_range, all_in_range, given_right, fault_of, fresh};
 ghost use Rattle.paced.specs.Loads.{row_load};
 ghost use Rattle.paced.specs.Pace.{largest_cost, coming, demand, allowance, given, later, Fit};
 ghost use Rattle.paced.specs.Runs.{at, largest as largest_sum};
@@ -15,7 +16,6 @@ pub const LARGEST: u32 = 1_000_000;
 
 // What is given of a paced part: an arrival at most every `period` ticks, each offered up to `jitter` ticks late, for
 // these costs in turn.
-// The clauses name the three, since the definitions serve rows, lines of a sheet and paces alike.
 #[derive(Clone, Copy)]
 pub struct Pace<'a> {
     pub period: u32,
@@ -118,7 +118,7 @@ fn largest_part(costs: &[u32], m: u32) -> u32
 impl Pace<'_> {
     // Whether these are numbers that may be given.
     fn given_right(self) -> bool
-        ensures { result ≡ given_right self.entry.period self.entry.jitter self.entry.costs.now }
+        ensures { result ≡ given_right (asked self.entry) }
     {
         in_range(self.period)
             && self.jitter <= LARGEST
@@ -128,7 +128,7 @@ impl Pace<'_> {
 
     // What is wrong with a paced part of these numbers, if anything is: an option, as `first_fault` takes two.
     pub fn fault(self) -> Option<Fault>
-        ensures { result ≡ fault_of self.entry.period self.entry.jitter self.entry.costs.now }
+        ensures { result ≡ fault_of (asked self.entry) }
     {
         if self.costs.len() > 8 {
             return Some(Fault::TooMany);
@@ -145,7 +145,7 @@ impl Pace<'_> {
     // A row of these numbers, with level and place 0.
     fn fresh_row(self) -> Row
         requires { length self.costs.now ≤ 8 }
-        ensures { result ≡ fresh self.entry.period self.entry.jitter self.entry.costs.now }
+        ensures { result ≡ fresh (asked self.entry) }
     {
         Row {
             period: self.period,
@@ -161,8 +161,9 @@ impl Pace<'_> {
 impl Row {
     // A paced part with level and place 0, or what is wrong with the numbers.
     pub fn new(pace: Pace) -> Result<Row, Fault>
+        ensures answer { result_err result ≡ fault_of (asked pace.entry) }
+        ensures made { IfOk result (λ row. row ≡ fresh (asked pace.entry)) }
         ensures fit { IfOk result (λ row. Fit row) }
-        ensures made { MatchResult result (λ row. (fault_of pace.entry.period pace.entry.jitter pace.entry.costs.now ≡ None) × (row ≡ fresh pace.entry.period pace.entry.jitter pace.entry.costs.now)) (λ fault. fault_of pace.entry.period pace.entry.jitter pace.entry.costs.now ≡ Some fault) }
     {
         pace.fault().map_or(Ok(()), Err)?;
         Ok(pace.fresh_row())

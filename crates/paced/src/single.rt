@@ -1,28 +1,39 @@
 // One paced part by itself.
-ghost use Rattle.std.specs.Prelude.{◌≡◌, Some, None, MatchResult};
-ghost use Rattle.paced.specs.Makes.{fault_of, fresh};
-ghost use Rattle.paced.specs.Pace.{Paces, Places, Costs, later};
-ghost use Rattle.paced.specs.Tables.{demands_of, allowances_of, only, GivesOne};
-ghost use Rattle.paced.specs.Together.{single_sound, single_taken, single_ticked};
+ghost use Rattle.std.specs.Prelude.{◌≡◌, IfOk};
+ghost use Rattle.std.specs.Result.{result_err};
+ghost use Rattle.refusal.specs.Refusals.{refusal_of};
+ghost use Rattle.source.proofs.Gates.{one_sound, one_taken, one_ticked};
+ghost use Rattle.source.specs.Rows.{work_one, allowed_one, GivesOne};
+ghost use Rattle.paced.specs.Makes.{asked, fault_of, fresh};
+ghost use Rattle.paced.specs.Pace.{later, Fit, paced};
+ghost use Rattle.paced.specs.Rows.{paced_owes};
 
 use crate::row::{Pace, Row};
 use refusal::Refusal;
 use source::{Gate, LONGEST, Source};
+use std::marker::Model;
 
-// A gate of one part.
-#[derive(Clone, Copy)]
+// A gate of one part, seen as its row.
+#[derive(Drop)]
 pub struct Paced {
     row: Row,
-    ghost paces: { Paces row },
-    ghost places: { Places row },
-    ghost costs: { Costs row },
+    ghost fit: { Fit row },
+}
+
+impl Model for Paced {
+    ghost use Rattle.paced.specs.Tables.{FitRow};
+
+    ghost Value = { FitRow };
+
+    ghost view = { λ p. record { row = p.row; fit = p.fit } };
 }
 
 impl Paced {
     // The part with these numbers, with level and place 0, or a refusal: more than 8 costs; a period or cost of 0, no
     // cost or a number above 1,000,000; a jitter that is not below the period.
     pub fn new(pace: Pace) -> Result<Paced, Refusal>
-        ensures { MatchResult result (λ p. (fault_of pace.entry.period pace.entry.jitter pace.entry.costs.now ≡ None) × (p.row ≡ fresh pace.entry.period pace.entry.jitter pace.entry.costs.now)) (λ e. (fault_of pace.entry.period pace.entry.jitter pace.entry.costs.now ≡ Some e.fault) × (e.line ≡ 0) × (e.task ≡ 0)) }
+        ensures answer { result_err result ≡ refusal_of (fault_of (asked pace.entry)) 0 }
+        ensures made { IfOk result (λ part. part.row ≡ fresh (asked pace.entry)) }
     {
         let row = Row::new(pace)?;
         Ok(Paced { row })
@@ -32,13 +43,11 @@ impl Paced {
 // A schedule answers alike as the one part 1: a trait of one part would carry the laws of a source and a gate once more, which is more
 // than these lines.
 impl Source for Paced {
-    ghost parts = { λ _. 1 };
+    ghost work = { λ s. work_one paced s.row };
 
-    ghost demanded = { λ s. demands_of 1 (only s.row) };
+    ghost allowed = { λ s. allowed_one paced s.row };
 
-    ghost allowed = { λ s. allowances_of 1 (only s.row) };
-
-    ghost sound = { λ s. single_sound s.row (record { paces = s.paces; places = s.places; costs = s.costs }) };
+    ghost sound = { λ s. one_sound paced paced_owes s.row s.fit };
 
     fn count(&self) -> u32 {
         1
@@ -54,13 +63,14 @@ impl Source for Paced {
 }
 
 impl Gate for Paced {
-    ghost takes = { λ s k u t. GivesOne s.row k u t.row };
-
-    ghost ticks = { λ s t. t.row ≡ later s.row };
+    ghost moves = { record {
+      takes = λ s k u t. GivesOne paced s.row k u t.row;
+      ticks = λ s t. t.row ≡ later s.row;
+    } };
 
     ghost driven = { record {
-      taken = λ s t k u g. single_taken s.row t.row k u (record { paces = s.paces; places = s.places; costs = s.costs }) g;
-      ticked = λ s t e. single_ticked s.row t.row (record { paces = s.paces; places = s.places; costs = s.costs }) e;
+      taken = λ s t k u gives. one_taken paced paced_owes s.row t.row k u s.fit gives;
+      ticked = λ s t passed. one_ticked paced paced_owes s.row t.row s.fit passed;
     } };
 
     fn offer(&mut self, part: u32, units: u64) -> bool {
@@ -71,7 +81,6 @@ impl Gate for Paced {
         true
     }
 
-    #[tactic(auto, using(crate::specs::Together::single_ticked))]
     fn tick(&mut self) {
         self.row.lower();
     }

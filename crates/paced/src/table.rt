@@ -1,61 +1,81 @@
 // Tables of paced parts: plain rows, of which the table says what they keep to.
-ghost use Rattle.std.specs.Prelude.{◌≡◌, ℕ, ◌+◌, ◌-◌, ◌<◌, ◌≤◌, min, true, false, length, replicate, if◌then◌else◌, Some, None, MatchOption, MatchResult, nat_lt, slice_set};
-ghost use Rattle.source.specs.Facts.{is_part};
-ghost use Rattle.paced.specs.Loads.{row_load};
-ghost use Rattle.paced.specs.Makes.{adding, fresh, unused};
-ghost use Rattle.paced.specs.Pace.{Paces, Places, Costs, Fit, largest_cost};
-ghost use Rattle.paced.specs.Tables.{row_at, demands_of, allowances_of, Gives, Passes};
+ghost use Rattle.std.specs.Prelude.{◌≡◌, ℕ, ◌-◌, ◌<◌, ◌≤◌, ◌++◌, [], ◌∷◌, All, min, length, take, Some, None, MatchOption, IfSome, OnOk, OnErr, nat_lt, slice_set};
+ghost use Rattle.std.specs.Result.{result_err};
+ghost use Rattle.source.proofs.Gates.{list_sound, list_taken, list_ticked};
+ghost use Rattle.source.specs.Rows.{Gives, Passes};
 ghost use Rattle.std.proofs.Common.{arith};
-ghost use Rattle.paced.specs.Together.{table_sound, list_taken, list_ticked};
+ghost use Rattle.paced.specs.Loads.{row_load};
+ghost use Rattle.paced.specs.Makes.{asked, adding, fresh};
+ghost use Rattle.paced.specs.Pace.{Fit, largest_cost, paced};
+ghost use Rattle.paced.specs.Rows.{paced_owes};
+ghost use Rattle.paced.specs.Tables.{part_at, told_of, work_in, allowances_in};
 
 use crate::row::{Pace, Row};
 use refusal::Fault;
 use source::{Gate, LONGEST, MOST_PARTS, Source};
+use std::marker::Model;
 
-// Up to `ROOM` paced parts, side by side, in the order in which they were added; never more than the 1,000 that a source
-// may have. The rows are plain; what every row in use keeps to stands here, among it that its level never passes jitter
-// plus period.
-#[derive(Clone, Copy)]
+// Up to `ROOM` paced parts, side by side, in the order in which they were added, seen as the list of their rows; never more than the
+// 1,000 that a source may have. The rows are plain; what every row in use keeps to stands here, among it that its level never passes
+// jitter plus period.
+#[derive(Drop)]
 pub struct Table<const ROOM: usize> {
     // rows and how many are in use: a rule of the project, which has fixed memory and no heap here; and a method that changes rows
     // copies them, changes the copy and writes it back whole
     rows: [Row; ROOM],
     count: u32,
     ghost held: { length rows ≡ ROOM },
-    ghost few: { count ≤ min ROOM 1000 },
-    ghost paces: { (i : ℕ) → i < count → Paces (row_at rows i) },
-    ghost places: { (i : ℕ) → i < count → Places (row_at rows i) },
-    ghost costs: { (i : ℕ) → i < count → Costs (row_at rows i) },
+    ghost room: { count ≤ ROOM },
+    ghost few: { length (take count rows) ≤ min ROOM 1000 },
+    ghost fit: { All Fit (take count rows) },
+}
+
+impl<const ROOM: usize> Model for Table<ROOM> {
+    ghost use Rattle.std.specs.Prelude.{take};
+    ghost use Rattle.paced.specs.Tables.{FitRows};
+
+    ghost Value = { FitRows ROOM };
+
+    ghost view = { λ t. record { list = take t.count t.rows; few = t.few; fit = t.fit } };
 }
 
 impl<const ROOM: usize> Table<ROOM> {
     // A table with no part.
     pub fn new() -> Self
-        ensures rows { result.rows ≡ replicate ROOM unused }
-        ensures count { result.count ≡ 0 }
+        ensures { result.list ≡ [] }
     {
         let rows = [Row::default(); ROOM];
         Table { rows, count: 0 }
     }
 
+    // The rows of the parts, in order.
+    fn rows(&self) -> &[Row]
+        ensures rows { result.now ≡ self.now.list }
+        ensures few { length result.now ≤ min ROOM 1000 }
+        ensures fit { All Fit result.now }
+    {
+        &self.rows[..self.count as usize]
+    }
+
     // Whether there is room for one part more.
     fn has_room(&self) -> bool
-        ensures { result ≡ nat_lt self.now.count (min ROOM 1000) }
+        ensures { result ≡ nat_lt (length self.now.list) (min ROOM 1000) }
     {
-        (self.count as usize) < ROOM.min(MOST_PARTS as usize)
+        self.rows().len() < ROOM.min(MOST_PARTS as usize)
     }
 
     // The row of a part, or None if there is no such part.
     fn row(&self, part: u32) -> Option<&Row>
-        ensures { MatchOption result (is_part self.now.count part ≡ false) (λ row. (is_part self.now.count part ≡ true) × (row.now ≡ row_at self.now.rows (part - 1)) × Fit row.now) }
+        ensures row { MatchOption result (part_at self.now.list part ≡ None) (λ row. part_at self.now.list part ≡ Some row.now) }
+        ensures fit { IfSome result (λ row. Fit row.now) }
     {
         let place = part.checked_sub(1)?;
-        self.rows[..self.count as usize].get(place as usize)
+        self.rows().get(place as usize)
     }
 
     // What is wrong with one part more, if anything is: an option, as `first_fault` takes two.
     pub fn fault(&self, pace: Pace) -> Option<Fault>
-        ensures { result ≡ adding (min ROOM 1000) self.now.count pace.entry.period pace.entry.jitter pace.entry.costs.now }
+        ensures { result ≡ adding (min ROOM 1000) (length self.now.list) (asked pace.entry) }
     {
         if !self.has_room() {
             return Some(Fault::TooMany);
@@ -65,24 +85,23 @@ impl<const ROOM: usize> Table<ROOM> {
 
     // The largest cost of a part, or None if there is no such part.
     pub fn largest_cost(&self, part: u32) -> Option<u32>
-        ensures { result ≡ (if is_part self.now.count part then Some (largest_cost (row_at self.now.rows (part - 1))) else None) }
+        ensures { result ≡ told_of largest_cost self.now.list part }
     {
         Some(self.row(part)?.largest_cost())
     }
 
     // The share of the processor's time that a part asks for, in ten-thousandths, or None if there is no such part.
     pub fn load(&self, part: u32) -> Option<u64>
-        ensures { result ≡ (if is_part self.now.count part then Some (row_load (row_at self.now.rows (part - 1))) else None) }
+        ensures { result ≡ told_of row_load self.now.list part }
     {
         Some(self.row(part)?.load())
     }
 
     // Puts a row at a place in use.
     fn put(&mut self, place: u32, row: Row)
-        requires place { place < self.old.count }
+        requires place { place < length self.old.list }
         requires fit { Fit row }
-        ensures rows { self.new.rows ≡ slice_set self.old.rows place row }
-        ensures count { self.new.count ≡ self.old.count }
+        ensures { self.new.list ≡ slice_set self.old.list place row }
     {
         let mut moved = self.rows;
         moved[place as usize] = row;
@@ -92,7 +111,9 @@ impl<const ROOM: usize> Table<ROOM> {
     // One part more behind the others, with level and place 0, or what is wrong: no room or more than 8 costs; a period
     // or cost of 0, no cost or a number above 1,000,000; a jitter that is not below the period.
     pub fn add(&mut self, pace: Pace) -> Result<(), Fault>
-        ensures { MatchResult result (λ _. (adding (min ROOM 1000) self.old.count pace.entry.period pace.entry.jitter pace.entry.costs.now ≡ None) × (self.new.rows ≡ slice_set self.old.rows self.old.count (fresh pace.entry.period pace.entry.jitter pace.entry.costs.now)) × (self.new.count ≡ self.old.count + 1)) (λ fault. (adding (min ROOM 1000) self.old.count pace.entry.period pace.entry.jitter pace.entry.costs.now ≡ Some fault) × (self.new ≡ self.old)) }
+        ensures answer { result_err result ≡ adding (min ROOM 1000) (length self.old.list) (asked pace.entry) }
+        ensures added { OnOk result (self.new.list ≡ self.old.list ++ fresh (asked pace.entry) ∷ []) }
+        ensures refused { OnErr result (self.new ≡ self.old) }
     {
         if !self.has_room() {
             return Err(Fault::TooMany);
@@ -107,16 +128,14 @@ impl<const ROOM: usize> Table<ROOM> {
 }
 
 impl<const ROOM: usize> Source for Table<ROOM> {
-    ghost parts = { λ s. s.count };
+    ghost work = { λ s. work_in s.list };
 
-    ghost demanded = { λ s. demands_of s.count (row_at s.rows) };
+    ghost allowed = { λ s. allowances_in s.list };
 
-    ghost allowed = { λ s. allowances_of s.count (row_at s.rows) };
-
-    ghost sound = { λ s. table_sound s.count (row_at s.rows) (omega arith) (λ i h. record { paces = s.paces i h; places = s.places i h; costs = s.costs i h }) };
+    ghost sound = { λ s. list_sound paced paced_owes s.list (omega (arith, s.few)) s.fit };
 
     fn count(&self) -> u32 {
-        self.count
+        self.rows().len() as u32
     }
 
     fn demand(&self, part: u32, ticks: u32) -> Option<u64> {
@@ -130,13 +149,14 @@ impl<const ROOM: usize> Source for Table<ROOM> {
 }
 
 impl<const ROOM: usize> Gate for Table<ROOM> {
-    ghost takes = { λ s k u t. Gives s.count s.rows k u t.count t.rows };
-
-    ghost ticks = { λ s t. Passes s.count s.rows t.count t.rows };
+    ghost moves = { record {
+      takes = λ s k u t. Gives paced s.list k u t.list;
+      ticks = λ s t. Passes paced s.list t.list;
+    } };
 
     ghost driven = { record {
-      taken = λ s t k u g. list_taken s.count s.rows k u t.count t.rows (omega arith) (λ i h. record { paces = s.paces i h; places = s.places i h; costs = s.costs i h }) g;
-      ticked = λ s t g. list_ticked s.count s.rows t.count t.rows (omega arith) (λ i h. record { paces = s.paces i h; places = s.places i h; costs = s.costs i h }) g;
+      taken = λ s t k u gives. list_taken paced paced_owes s.list k u t.list s.fit gives;
+      ticked = λ s t passes. list_ticked paced paced_owes s.list t.list s.fit passes;
     } };
 
     fn offer(&mut self, part: u32, units: u64) -> bool {
@@ -152,7 +172,7 @@ impl<const ROOM: usize> Gate for Table<ROOM> {
         true
     }
 
-    #[tactic(auto, using(crate::specs::Together::ticks_on))]
+    #[tactic(auto, using(crate::proofs::Ticks::ticks_on))]
     fn tick(&mut self) {
         let mut rows = self.rows;
         for row in rows.iter_mut() {

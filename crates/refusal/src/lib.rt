@@ -2,6 +2,7 @@
 #![tactic(auto)]
 
 ghost use Rattle.std.specs.Prelude.{◌≡◌};
+ghost use Rattle.refusal.specs.Refusals.{plain};
 ghost use Rattle.refusal.specs.Table.{row, told, first_of};
 
 // The stage that refuses: reading words, reading lines, filling a plan, judging it, running it, or writing a listing.
@@ -129,9 +130,7 @@ pub struct Refusal {
 impl Refusal {
     // The refusal of a call that is about no line and no task, where no `?` makes it of a fault.
     pub fn plain(fault: Fault) -> Refusal
-        ensures fault { result.fault ≡ fault }
-        ensures line { result.line ≡ 0 }
-        ensures task { result.task ≡ 0 }
+        ensures { result ≡ plain fault }
     {
         Refusal {
             fault,
@@ -175,7 +174,7 @@ impl Refusal {
 
 // A fault that is passed up becomes the refusal that is about no line and no task yet.
 impl From<Fault> for Refusal {
-    ghost from_gives = { λ f r. r ≡ record { fault = f; line = 0; task = 0 } };
+    ghost from_gives = { λ f r. r ≡ plain f };
 
     fn from(fault: Fault) -> Refusal {
         Refusal::plain(fault)

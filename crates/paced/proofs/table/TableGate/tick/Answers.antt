@@ -1,29 +1,30 @@
-use Rattle.std.proofs.Common.{◌≡◌, ℕ, ◌<◌, map, length, sym, refl, ◌∙◌, subst, arith}
-use Rattle.std.proofs.lemmas.List.{length-map}
-use Rattle.paced.specs.Pace.{later, Paces, Places, Costs, Fit}
-use Rattle.paced.specs.Tables.{row_at, Passes}
-use Rattle.paced.specs.Rows.{later_fit}
-use Rattle.paced.specs.Together.{list_ticked, later_every, ticks_all}
+use Rattle.std.proofs.Common.{◌≡◌, map, length, take, ap, ◌∙◌, arith}
+use Rattle.std.proofs.lemmas.List.{length-map, take-map}
+use Rattle.source.proofs.Gates.{list_ticked, list_later_fit}
+use Rattle.source.specs.Rows.{Passes}
+use Rattle.paced.specs.Pace.{later, paced}
+use Rattle.paced.specs.Rows.{paced_owes}
+use Rattle.paced.proofs.Ticks.{ticks_all}
 use Rattle.paced.proofs.table.TableGate.tick.Goals as goal
 
-pub invariant_of-self : goal.invariant_of-self
-invariant_of-self g c =
-    let s = c.args.self.now in
-    let all : c.loop-row.row-items ≡ map later s.rows = ticks_all s.rows c.loop-row.row-items c.loop-row.row-index (omega arith) c.loop-row.invariant in
-    let fit : (i : ℕ) → i < s.count → Fit (later (row_at s.rows i)) = λ i h. later_fit (row_at s.rows i) (record { paces = s.paces i h; places = s.places i h; costs = s.costs i h }) in
-    let held : length (map later s.rows) ≡ g.row.ROOM = length-map s.rows later ∙ s.held in
-    record {
-      held = subst (λ rows. length rows ≡ g.row.ROOM) (sym all) held;
-      few = s.few;
-      paces = subst (λ rows. (i : ℕ) → i < s.count → Paces (row_at rows i)) (sym all) (later_every Paces s.rows s.count (omega arith) (λ i h. (fit i h).paces));
-      places = subst (λ rows. (i : ℕ) → i < s.count → Places (row_at rows i)) (sym all) (later_every Places s.rows s.count (omega arith) (λ i h. (fit i h).places));
-      costs = subst (λ rows. (i : ℕ) → i < s.count → Costs (row_at rows i)) (sym all) (later_every Costs s.rows s.count (omega arith) (λ i h. (fit i h).costs));
-    }
+pub invariant_of-self-inside : goal.invariant_of-self-inside
+invariant_of-self-inside g c =
+    let s = c.self.inside in
+    let n = s.count in
+    let rows' = c.loop-row.row-items in
+    let all : rows' ≡ map later s.rows = ticks_all s.rows rows' c.loop-row.row-index (omega (arith, s.held)) c.loop-row.invariant in
+    let passes : Passes paced (take n s.rows) (take n rows') = ap (take n) all ∙ take-map later n s.rows in (
+      ap length all ∙ length-map s.rows later ∙ s.held,
+      (s.room, (omega (arith, s.few, ap length passes, length-map (take n s.rows) later), (list_later_fit paced paced_owes (take n s.rows) (take n rows') s.fit passes, tt))),
+    )
 
 pub returns : goal.returns
 returns g c =
-    let s = c.args.self.now in
-    let all : c.loop-row.row-items ≡ map later s.rows = ticks_all s.rows c.loop-row.row-items c.loop-row.row-index (omega arith) c.loop-row.invariant in
-    let passes : Passes s.count s.rows s.count c.loop-row.row-items = record { count = refl; lowered = all } in
-    let facts = list_ticked s.count s.rows s.count c.loop-row.row-items (omega arith) (λ i h. record { paces = s.paces i h; places = s.places i h; costs = s.costs i h }) passes in
+    let s = c.self.inside in
+    let n = s.count in
+    let now = c.args.self.now in
+    let rows' = c.loop-row.row-items in
+    let all : rows' ≡ map later s.rows = ticks_all s.rows rows' c.loop-row.row-index (omega (arith, s.held)) c.loop-row.invariant in
+    let passes : Passes paced now.list (take n rows') = ap (take n) all ∙ take-map later n s.rows ∙ ap (λ v. map later v.list) c.self.view_is in
+    let facts = list_ticked paced paced_owes now.list (take n rows') now.fit passes in
     record { ticks = passes; ticked = facts.1; kept = facts.0 }

@@ -1,0 +1,18 @@
+-- The rows of a table are ticked one after another.
+use Rattle.std.proofs.Common.{◌≡◌, ℕ, ◌+◌, ◌<◌, ◌≤◌, List, ◌++◌, map, length, take, drop, set, ap, ◌∙◌, arith, append-nil}
+use Rattle.std.proofs.lemmas.List.{get_or_default, take_all, drop_all, length-append, length-map, length-take-le, length-drop}
+use Rattle.std.proofs.lemmas.List.Edits.{map_over_more}
+use Rattle.paced.specs.Pace.{later, blank}
+use Rattle.paced.specs.Tables.{row_at}
+use Rattle.paced.specs.declared.row.Row.{Row}
+
+-- row i of those that a loop has come to
+pub ticks_on : (xs ys : List Row) (i : ℕ) → i < length xs → ys ≡ map later (take i xs) ++ drop i xs → set ys i (later (row_at ys i)) ≡ map later (take (i + 1) xs) ++ drop (i + 1) xs
+ticks_on xs ys i h e = map_over_more later xs ys i (row_at ys i) h e (get_or_default ys i blank (row_at ys i) long)
+  where
+    long : i < length ys
+    long = omega (arith, ap length e, length-append (map later (take i xs)) (drop i xs), length-map (take i xs) later, length-take-le i xs (omega arith), length-drop i xs)
+
+-- all of them at the end of the loop
+pub ticks_all : (xs ys : List Row) (i : ℕ) → length xs ≤ i → ys ≡ map later (take i xs) ++ drop i xs → ys ≡ map later xs
+ticks_all xs ys i h e = e ∙ (λ j. map later (take_all i xs h j) ++ drop_all i xs h j) ∙ append-nil (map later xs)
