@@ -1,67 +1,93 @@
--- One task more: what the table of tasks keeps.
-use Rattle.std.proofs.Common.{◌≡◌, ℕ, ◌+◌, ◌<◌, ◌≤◌, cond, ◌&&◌, ltb, leb, ◌⊎◌, List, length, set, Some, None, ap, ◌∙◌, inl, inr, arith, get_or-set_other, get_or-set_same}
-use Rattle.std.proofs.lemmas.Bool.{cases_eq, leb-true, ltb-true, and_parts}
+-- One task more: what the tasks of a plan keep to.
+use Rattle.std.proofs.Common.{◌≡◌, ℕ, ◌+◌, ◌<◌, ◌≤◌, Bool, true, false, cond, ◌&&◌, ltb, leb, List, [], ◌∷◌, ◌++◌, length, get_or, Some, None, Option, refl, ap, inl, inr, arith, length-append}
+use Rattle.std.proofs.lemmas.Bool.{cases_lt, leb-true, ltb-true, and_parts}
+use Rattle.std.proofs.lemmas.List.{get_or_append_left, get_or_push, get_or-map, length-map}
+use Rattle.std.proofs.lemmas.List.Elements.{All-push}
+use Rattle.std.proofs.lemmas.List.Sums.{AllPass-from_list_all}
+use Rattle.refusal.specs.Table.{row, first_of}
+use Rattle.refusal.specs.declared.Fault.{Fault}
 use Rattle.refusal.specs.declared.Fault.TheVariants.{TooMany, OutOfRange, Misfit, HoldAboveBlocking}
-use Rattle.paced.specs.Makes.{in_range, fault_of, adding}
-use Rattle.paced.specs.Pace.{blank}
-use Rattle.paced.specs.Tables.{row_at}
-use Rattle.paced.specs.declared.row.Row.{Row}
-use Rattle.paced.proofs.Makings.{passed}
-use Rattle.plan.specs.Limits.{unlimited, limit_at, bearable, limit_fault}
+use Rattle.paced.specs.Makes.{Asked, in_range, fault_of, adding}
+use Rattle.paced.specs.Pace.{Fit}
+use Rattle.paced.proofs.Makings.{passed, fresh_fit}
+use Rattle.plan.specs.Limits.{bearable, limit_fault, task_fault}
+use Rattle.plan.specs.Tasks.{Task, made, task_at, limits_of, unlimited, AtRest, Fitting}
 use Rattle.plan.specs.declared.tasks.Limit.{Limit}
-use Rattle.plan.proofs.Bearing.{bears_each}
+
+-- where no fault is found in either of two, none is found in both
+first_none : (a b : Option Fault) → first_of a b ≡ None → (a ≡ None) × (b ≡ None)
+first_none None b e = (refl, e)
+first_none (Some f) None e = let z : ◌≡◌ {A = ℕ} 0 1 = cc in absurd (omega arith)
+first_none (Some f) (Some g) e = some (leb (row f).number (row g).number) e
+  where
+    some : (t : Bool) → cond t (Some f) (Some g) ≡ None → (Some f ≡ None) × (Some g ≡ None)
+    some true q = let z : ◌≡◌ {A = ℕ} 0 1 = cc in absurd (omega arith)
+    some false q = let z : ◌≡◌ {A = ℕ} 0 1 = cc in absurd (omega arith)
+
+-- a hold that all the tasks can bear
+bears_each : (tasks : List Task) (h : ℕ) → bearable tasks h ≡ true → (i : ℕ) → i < length tasks → h ≤ (task_at tasks i).limit.blocking
+bears_each tasks h e i l =
+    let all = AllPass-from_list_all (λ (limit : Limit). leb h limit.blocking) (limits_of tasks) e in
+    let here = all i unlimited (omega (arith, length-map tasks (λ t. t.limit))) in
+    let limit : get_or (limits_of tasks) i unlimited ≡ (task_at tasks i).limit = get_or-map (λ t. t.limit) tasks i _ unlimited l in
+    omega (arith, leb-true h (get_or (limits_of tasks) i unlimited).blocking here, ap (λ l. l.blocking) limit)
 
 -- limits with which nothing is wrong
-pub record Right (limits : List Limit) (n t j : ℕ) (l : Limit) : Type 0 where
-  pub blocking : l.blocking ≤ 1000000
-  pub deadline : l.deadline + j ≤ t
-  pub hold : (i : ℕ) → i < n → l.hold ≤ (limit_at limits i).blocking
+record Right (tasks : List Task) (a : Asked) (l : Limit) : Type 0 where
+  blocking : l.blocking ≤ 1000000
+  deadline : l.deadline + a.jitter ≤ a.period
+  hold : (i : ℕ) → i < length tasks → l.hold ≤ (task_at tasks i).limit.blocking
 
-pub right_limits : (limits : List Limit) (n t j : ℕ) (l : Limit) → limit_fault limits n t j l.blocking l.deadline l.hold ≡ None → Right limits n t j l
-right_limits limits n t j l e =
-    let numbers = passed (in_range l.deadline && (leb l.blocking 1000000 && leb l.hold 1000000)) (cond (leb (l.deadline + j) t) (cond (bearable limits l.hold n) None (Some HoldAboveBlocking)) (Some Misfit)) OutOfRange e in
-    let fitting = passed (leb (l.deadline + j) t) (cond (bearable limits l.hold n) None (Some HoldAboveBlocking)) Misfit numbers.1 in
-    let bearing = passed (bearable limits l.hold n) None HoldAboveBlocking fitting.1 in
+right_limits : (tasks : List Task) (a : Asked) (l : Limit) → limit_fault tasks a l ≡ None → Right tasks a l
+right_limits tasks a l e =
+    let numbers = passed (in_range l.deadline && (leb l.blocking 1000000 && leb l.hold 1000000)) (cond (leb (l.deadline + a.jitter) a.period) (cond (bearable tasks l.hold) None (Some HoldAboveBlocking)) (Some Misfit)) OutOfRange e in
+    let fitting = passed (leb (l.deadline + a.jitter) a.period) (cond (bearable tasks l.hold) None (Some HoldAboveBlocking)) Misfit numbers.1 in
+    let bearing = passed (bearable tasks l.hold) None HoldAboveBlocking fitting.1 in
     record {
       blocking = leb-true l.blocking 1000000 (and_parts (leb l.blocking 1000000) (leb l.hold 1000000) (and_parts (in_range l.deadline) (leb l.blocking 1000000 && leb l.hold 1000000) numbers.0).1).0;
-      deadline = leb-true (l.deadline + j) t fitting.0;
-      hold = bears_each limits l.hold n bearing.0;
+      deadline = leb-true (l.deadline + a.jitter) a.period fitting.0;
+      hold = bears_each tasks l.hold bearing.0;
     }
 
-module _ (rows rows' : List Row) (limits : List Limit) (n n' : ℕ) (r : Row) (l : Limit) (rows_are : rows' ≡ set rows n r) (count_is : n' ≡ n + 1) (room : n < length rows) (place : n < length limits) where
-  -- the new task, or one that was there
-  at_either : (i : ℕ) → i < n' → ((i < n) × (row_at rows' i ≡ row_at rows i) × (limit_at (set limits n l) i ≡ limit_at limits i)) ⊎ ((i ≡ n) × (row_at rows' i ≡ r) × (limit_at (set limits n l) i ≡ l))
-  at_either i h =
-      elim (cases_eq i n) [
-        | inl e ↦ inr (e, ap (λ k. row_at rows' k) e ∙ ap (λ xs. row_at xs n) rows_are ∙ get_or-set_same rows n r blank room, ap (limit_at (set limits n l)) e ∙ get_or-set_same limits n l unlimited place)
-        | inr ne ↦ inl (omega arith, ap (λ xs. row_at xs i) rows_are ∙ get_or-set_other rows n i r blank ne, get_or-set_other limits n i l unlimited ne)
-      ]
+-- a task that is taken leaves the tasks as a plan takes them
+pub add_fitting : (tasks : List Task) (a : Asked) (l : Limit) → task_fault tasks a l ≡ None → Fitting tasks → Fitting (tasks ++ made a l ∷ [])
+add_fitting tasks a l none old =
+    record {
+      few = omega (arith, length-append tasks (made a l ∷ []), room);
+      rows = All-push (λ (task : Task). Fit task.row) tasks (made a l) old.rows (fresh_fit a (passed (ltb (length tasks) 16) (fault_of a) TooMany parts.0).1);
+      rest = All-push (λ (task : Task). AtRest task.row) tasks (made a l) old.rest (record { level = refl; place = refl });
+      deadlines = All-push (λ (task : Task). task.limit.deadline + task.row.jitter ≤ task.row.period) tasks (made a l) old.deadlines right.deadline;
+      blockings = All-push (λ (task : Task). task.limit.blocking ≤ 1000000) tasks (made a l) old.blockings right.blocking;
+      holds = holds;
+    }
+  where
+    parts : (adding 16 (length tasks) a ≡ None) × (limit_fault tasks a l ≡ None)
+    parts = first_none (adding 16 (length tasks) a) (limit_fault tasks a l) none
 
-  pub add_deadlines : ((i : ℕ) → i < n → (limit_at limits i).deadline + (row_at rows i).jitter ≤ (row_at rows i).period) → l.deadline + r.jitter ≤ r.period → (i : ℕ) → i < n' → (limit_at (set limits n l) i).deadline + (row_at rows' i).jitter ≤ (row_at rows' i).period
-  add_deadlines old new i h =
-      elim (at_either i h) [
-        | inl w ↦ omega (arith, old i w.0, ap (λ x. x.jitter) w.1, ap (λ x. x.period) w.1, ap (λ x. x.deadline) w.2)
-        | inr w ↦ omega (arith, new, ap (λ x. x.jitter) w.1, ap (λ x. x.period) w.1, ap (λ x. x.deadline) w.2)
-      ]
+    right : Right tasks a l
+    right = right_limits tasks a l parts.1
 
-  pub add_blockings : ((i : ℕ) → i < n → (limit_at limits i).blocking ≤ 1000000) → l.blocking ≤ 1000000 → (i : ℕ) → i < n' → (limit_at (set limits n l) i).blocking ≤ 1000000
-  add_blockings old new i h = elim (at_either i h) [ inl w ↦ omega (arith, old i w.0, ap (λ x. x.blocking) w.2) | inr w ↦ omega (arith, new, ap (λ x. x.blocking) w.2) ]
+    room : length tasks < 16
+    room = ltb-true (length tasks) 16 (passed (ltb (length tasks) 16) (fault_of a) TooMany parts.0).0
 
-  pub add_holds : ((i j : ℕ) → i < j → j < n → (limit_at limits j).hold ≤ (limit_at limits i).blocking) → ((i : ℕ) → i < n → l.hold ≤ (limit_at limits i).blocking) → (i j : ℕ) → i < j → j < n' → (limit_at (set limits n l) j).hold ≤ (limit_at (set limits n l) i).blocking
-  add_holds old new i j less h =
-      let above : limit_at (set limits n l) i ≡ limit_at limits i = get_or-set_other limits n i l unlimited (λ e. omega arith) in
-      elim (at_either j h) [
-        | inl w ↦ omega (arith, old i j less w.0, ap (λ x. x.hold) w.2, ap (λ x. x.blocking) above)
-        | inr w ↦ omega (arith, new i (omega (arith, w.0)), ap (λ x. x.hold) w.2, ap (λ x. x.blocking) above)
-      ]
+    there : (i : ℕ) → i < length tasks → task_at (tasks ++ made a l ∷ []) i ≡ task_at tasks i
+    there i h = get_or_append_left tasks (made a l ∷ []) _ i h
 
-  pub add_rest : ((i : ℕ) → i < n → ((row_at rows i).level ≡ 0) × ((row_at rows i).place ≡ 0)) → r.level ≡ 0 → r.place ≡ 0 → (i : ℕ) → i < n' → ((row_at rows' i).level ≡ 0) × ((row_at rows' i).place ≡ 0)
-  add_rest old level place i h =
-      elim (at_either i h) [
-        | inl w ↦ (ap (λ x. x.level) w.1 ∙ (old i w.0).0, ap (λ x. x.place) w.1 ∙ (old i w.0).1)
-        | inr w ↦ (ap (λ x. x.level) w.1 ∙ level, ap (λ x. x.place) w.1 ∙ place)
-      ]
+    last : (j : ℕ) → length tasks ≡ j → task_at (tasks ++ made a l ∷ []) j ≡ made a l
+    last j e = get_or_push tasks (made a l) _ j e
 
--- where a part was added there was room
-pub had_room : (n t j : ℕ) (costs : List ℕ) → adding 16 n t j costs ≡ None → n < 16
-had_room n t j costs e = ltb-true n 16 (passed (ltb n 16) (fault_of t j costs) TooMany e).0
+    holds : (i j : ℕ) → i < j → j < length (tasks ++ made a l ∷ []) → (task_at (tasks ++ made a l ∷ []) j).limit.hold ≤ (task_at (tasks ++ made a l ∷ []) i).limit.blocking
+    holds i j less within =
+        let many : j < length tasks + 1 = omega (arith, length-append tasks (made a l ∷ [])) in
+        elim (cases_lt j (length tasks)) [
+          | inl before ↦ omega (arith, old.holds i j less before, ap (λ t. t.limit.hold) (there j before), ap (λ t. t.limit.blocking) (there i (omega arith)))
+          | inr new ↦ omega (arith, right.hold i (omega arith), ap (λ t. t.limit.hold) (last j (omega arith)), ap (λ t. t.limit.blocking) (there i (omega arith)))
+        ]
+
+-- and its paced part can be added
+pub part_clean : (tasks : List Task) (a : Asked) (l : Limit) → task_fault tasks a l ≡ None → adding 16 (length tasks) a ≡ None
+part_clean tasks a l none = (first_none (adding 16 (length tasks) a) (limit_fault tasks a l) none).0
+
+-- where a task was added there was room
+pub had_room : (tasks : List Task) (a : Asked) (l : Limit) → task_fault tasks a l ≡ None → length tasks < 16
+had_room tasks a l none = ltb-true (length tasks) 16 (passed (ltb (length tasks) 16) (fault_of a) TooMany (first_none (adding 16 (length tasks) a) (limit_fault tasks a l) none).0).0

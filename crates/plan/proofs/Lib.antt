@@ -1,6 +1,6 @@
 pub mod Adding
-pub mod Bearing
 pub mod Bounds
 pub mod Climbing
 pub mod Once
+pub mod Sides
 pub mod Totals

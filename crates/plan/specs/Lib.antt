@@ -1,3 +1,5 @@
 pub mod Judged
 pub mod Limits
 pub mod Needs
+pub mod Plans
+pub mod Tasks

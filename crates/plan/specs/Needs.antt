@@ -2,26 +2,22 @@
 -- it. The bound is the smallest window that holds its need.
 use Rattle.std.specs.Prelude.{ℕ, ◌+◌, ◌<◌, ◌≤◌, List, Some, None, Option}
 use Rattle.cycles.specs.Round.{sum}
+use Rattle.source.specs.Facts.{Work}
 use Rattle.paced.specs.Pace.{largest_cost}
-use Rattle.paced.specs.Tables.{row_at, demands_of}
-use Rattle.paced.specs.declared.row.Row.{Row}
-use Rattle.plan.specs.Limits.{limit_at}
-use Rattle.plan.specs.declared.tasks.Limit.{Limit}
+use Rattle.paced.specs.Tables.{work_in}
+use Rattle.plan.specs.Tasks.{Task, task_at, rows_of}
 
-abbrev pub of_part : (ℕ → ℕ → ℕ) → ℕ → ℕ → ℕ
-of_part d l k = d (k + 1) l
+-- the demand of the parts 1 to n over l ticks
+abbrev pub total : Work → ℕ → ℕ → ℕ
+total w n l = sum (λ k. w.demand (k + 1) l) n
 
--- the demand d of parts 1 to n over l ticks
-abbrev pub total : (ℕ → ℕ → ℕ) → ℕ → ℕ → ℕ
-total d n l = sum (of_part d l) n
+-- what a task needs itself: its blocking and its largest cost
+abbrev pub own_need : Task → ℕ
+own_need task = task.limit.blocking + largest_cost task.row
 
--- a task with blocking b and largest cost c, before which go n parts of demand d and m tasks of demand e
-abbrev pub need : ℕ → ℕ → (ℕ → ℕ → ℕ) → ℕ → (ℕ → ℕ → ℕ) → ℕ → ℕ → ℕ
-need b c d n e m l = b + c + total d n l + total e m l
-
--- what task i, counted from 0, of a plan needs: its bank has n parts of demand d, its m tasks have these limits and rows
-abbrev pub needed : (ℕ → ℕ → ℕ) → ℕ → List Limit → ℕ → List Row → ℕ → ℕ → ℕ
-needed d n limits m rows i l = need (limit_at limits i).blocking (largest_cost (row_at rows i)) d n (demands_of m (row_at rows)) i l
+-- what task i, counted from 0, needs below that bank: what it needs itself, the demand of the bank, and that of the tasks above it
+abbrev pub needed : Work → List Task → ℕ → ℕ → ℕ
+needed bank tasks i l = own_need (task_at tasks i) + total bank bank.parts l + total (work_in (rows_of tasks)) i l
 
 -- w is the smallest window, of at least a tick, that holds what is needed
 pub record Smallest (needed : ℕ → ℕ) (w : ℕ) : Type 0 where

@@ -1,7 +1,7 @@
-// The judge: task after task, from the highest on, until one has no window within its deadline. Its clauses name what a verdict rests
-// on, the demand, the parts, the limits, the count and the rows of the tasks, since the definitions speak of no plan and no gate.
-ghost use Rattle.std.specs.Prelude.{◌≡◌, ℕ, ◌<◌, ◌≤◌, slice_index};
-ghost use Rattle.plan.specs.Judged.{Bounded, Unbounded, Judged, Filled, OnlyJudged};
+// The judge: task after task, from the highest on, until one has no window within its deadline.
+ghost use Rattle.std.specs.Prelude.{◌≡◌, ℕ, ◌<◌, ◌≤◌, length, slice_index};
+ghost use Rattle.plan.specs.Judged.{Bounded, Unbounded, Judged, Filled, OnlyJudged, StaysAccepted};
+ghost use Rattle.plan.specs.Tasks.{Fitting};
 
 use crate::stages::OpenPlan;
 use crate::verdict::Verdict;
@@ -22,13 +22,14 @@ impl<S: Source> OpenPlan<S> {
     // What is found where the task at a place has no window, and each above it has the one that stands in `bounds`. It asks for place
     // and parts as the search does. What the judge promises stands at each method from `judge` down to here, since each hands it on.
     fn late(&self, place: u32, bounds: [u32; 16]) -> Finding
-        requires few { S.Source.parts self.now.bank ≤ 16 }
-        requires task { place < self.now.tasks.parts.count }
-        requires above { (i : ℕ) → i < place → Bounded (S.Source.demanded self.now.bank) (S.Source.parts self.now.bank) self.now.tasks.limits self.now.tasks.parts.count self.now.tasks.parts.rows i (slice_index bounds i) }
+        requires few { (S.work self.now.bank).parts ≤ 16 }
+        requires task { place < length self.now.tasks }
+        requires above { (i : ℕ) → i < place → Bounded (S.work self.now.bank) self.now.tasks i (slice_index bounds i) }
         requires rest { (i : ℕ) → place ≤ i → slice_index bounds i ≡ 0 }
-        requires late { Unbounded (S.Source.demanded self.now.bank) (S.Source.parts self.now.bank) self.now.tasks.limits self.now.tasks.parts.count self.now.tasks.parts.rows place }
-        ensures judged { Judged (S.Source.demanded self.now.bank) (S.Source.parts self.now.bank) self.now.tasks.limits self.now.tasks.parts.count self.now.tasks.parts.rows result.verdict result.bounds }
-        ensures filled { Filled (S.Source.demanded self.now.bank) (S.Source.parts self.now.bank) self.now.tasks.limits self.now.tasks.parts.count self.now.tasks.parts.rows result.verdict result.bounds }
+        requires late { Unbounded (S.work self.now.bank) self.now.tasks place }
+        requires fitting { Fitting self.now.tasks }
+        ensures judged { Judged (S.work self.now.bank) self.now.tasks result.verdict result.bounds }
+        ensures filled { Filled (S.work self.now.bank) self.now.tasks result.verdict result.bounds }
     {
         Finding {
             verdict: Verdict::late(place),
@@ -39,8 +40,9 @@ impl<S: Source> OpenPlan<S> {
     // Judges one task after another.
     #[tactic(auto, using(cycles::proofs::Tables::all_same))]
     fn find(&self) -> Finding
-        ensures judged { Judged (S.Source.demanded self.now.bank) (S.Source.parts self.now.bank) self.now.tasks.limits self.now.tasks.parts.count self.now.tasks.parts.rows result.verdict result.bounds }
-        ensures filled { Filled (S.Source.demanded self.now.bank) (S.Source.parts self.now.bank) self.now.tasks.limits self.now.tasks.parts.count self.now.tasks.parts.rows result.verdict result.bounds }
+        ensures judged { Judged (S.work self.now.bank) self.now.tasks result.verdict result.bounds }
+        ensures filled { Filled (S.work self.now.bank) self.now.tasks result.verdict result.bounds }
+        ensures fitting { Fitting self.now.tasks }
     {
         let mut bounds = [0; 16];
         let count = self.tasks.count();
@@ -65,9 +67,11 @@ impl<S: Source> OpenPlan<S> {
 
     // What is found of the plan, with the law that nothing else can be found.
     pub(crate) fn verdict_on(&self) -> Finding
-        ensures judged { Judged (S.Source.demanded self.now.bank) (S.Source.parts self.now.bank) self.now.tasks.limits self.now.tasks.parts.count self.now.tasks.parts.rows result.verdict result.bounds }
-        ensures filled { Filled (S.Source.demanded self.now.bank) (S.Source.parts self.now.bank) self.now.tasks.limits self.now.tasks.parts.count self.now.tasks.parts.rows result.verdict result.bounds }
-        ensures only { OnlyJudged (S.Source.demanded self.now.bank) (S.Source.parts self.now.bank) self.now.tasks.limits self.now.tasks.parts.count self.now.tasks.parts.rows result.verdict result.bounds }
+        ensures judged { Judged (S.work self.now.bank) self.now.tasks result.verdict result.bounds }
+        ensures filled { Filled (S.work self.now.bank) self.now.tasks result.verdict result.bounds }
+        ensures only { OnlyJudged (S.work self.now.bank) self.now.tasks result.verdict result.bounds }
+        ensures stays { StaysAccepted (S.work self.now.bank) self.now.tasks result.verdict result.bounds }
+        ensures fitting { Fitting self.now.tasks }
     {
         self.find()
     }

@@ -1,8 +1,8 @@
 // The search for the smallest window that holds what a task needs. A method asks for a place below the count of tasks and for a bank of at
 // most 16 parts: the judge goes over such places and has tested the parts, and a type for a place would have to be tied to its plan.
-ghost use Rattle.std.specs.Prelude.{◌≡◌, ◌+◌, ◌^◌, ◌<◌, ◌≤◌};
-ghost use Rattle.plan.specs.Limits.{limit_at};
+ghost use Rattle.std.specs.Prelude.{◌≡◌, ◌+◌, ◌^◌, ◌<◌, ◌≤◌, length};
 ghost use Rattle.plan.specs.Needs.{total, needed, Searched};
+ghost use Rattle.plan.specs.Tasks.{task_at};
 
 use crate::stages::OpenPlan;
 use source::Source;
@@ -10,9 +10,9 @@ use source::Source;
 // The demand of the first parts of a source over a window.
 fn total_of<S: Source>(source: &S, parts: u32, ticks: u32) -> u64
     requires few { parts ≤ 16 }
-    requires within { parts ≤ S.Source.parts source.now }
+    requires within { parts ≤ (S.work source.now).parts }
     requires window { ticks ≤ 1000000 }
-    ensures value { result ≡ total (S.Source.demanded source.now) parts ticks }
+    ensures value { result ≡ total (S.work source.now) parts ticks }
     ensures small { result ≤ 160000000000000 }
 {
     let mut all: u64 = 0;
@@ -37,24 +37,24 @@ fn needed_with(own: u64, bank: u64, above: u64) -> u64
 impl<S: Source> OpenPlan<S> {
     // What the task at a place needs of a window: its blocking, its largest cost, and all demand above it.
     fn need_of(&self, place: u32, ticks: u32) -> u64
-        requires few { S.Source.parts self.now.bank ≤ 16 }
-        requires task { place < self.now.tasks.parts.count }
+        requires few { (S.work self.now.bank).parts ≤ 16 }
+        requires task { place < length self.now.tasks }
         requires window { ticks ≤ 1000000 }
-        ensures { result ≡ needed (S.Source.demanded self.now.bank) (S.Source.parts self.now.bank) self.now.tasks.limits self.now.tasks.parts.count self.now.tasks.parts.rows place ticks }
+        ensures { result ≡ needed (S.work self.now.bank) self.now.tasks place ticks }
     {
         let own = self.tasks.own_need(place);
         let parts = self.bank.count();
         let by_bank = total_of(&self.bank, parts, ticks);
-        let by_tasks = total_of(&self.tasks.parts, place, ticks);
+        let by_tasks = total_of(self.tasks.parts(), place, ticks);
         needed_with(own, by_bank, by_tasks)
     }
 
     // The smallest window of at most the deadline that holds what the task at a place needs, if there is one. It climbs: a
     // window that is too small has to be at least as large as what is needed in it.
     pub(crate) fn window_of(&self, place: u32) -> Option<u32>
-        requires few { S.Source.parts self.now.bank ≤ 16 }
-        requires task { place < self.now.tasks.parts.count }
-        ensures { Searched (needed (S.Source.demanded self.now.bank) (S.Source.parts self.now.bank) self.now.tasks.limits self.now.tasks.parts.count self.now.tasks.parts.rows place) (limit_at self.now.tasks.limits place).deadline result }
+        requires few { (S.work self.now.bank).parts ≤ 16 }
+        requires task { place < length self.now.tasks }
+        ensures { Searched (needed (S.work self.now.bank) self.now.tasks place) (task_at self.now.tasks place).limit.deadline result }
     {
         let deadline = self.tasks.deadline(place);
         let mut ticks = 1;

@@ -1,8 +1,12 @@
 // A plan from open to judged. Each stage is used up by the next, so a judged plan takes no more tasks.
-ghost use Rattle.std.specs.Prelude.{◌≡◌, ◌+◌, ◌≤◌, min, ◌++◌, length, take, drop, replicate, Some, None, MatchResult, slice_set};
-ghost use Rattle.paced.specs.Makes.{fresh, unused};
+ghost use Rattle.std.specs.Prelude.{◌≡◌, ◌+◌, min, ◌++◌, [], ◌∷◌, length, take, drop, OnOk, OnErr};
+ghost use Rattle.std.specs.Result.{result_err};
+ghost use Rattle.refusal.specs.Refusals.{refusal_of};
+ghost use Rattle.paced.specs.Makes.{asked};
 ghost use Rattle.plan.specs.Judged.{Judged, Filled, OnlyJudged, StaysAccepted, bounds_told};
-ghost use Rattle.plan.specs.Limits.{unlimited, task_fault};
+ghost use Rattle.plan.specs.Limits.{task_fault};
+ghost use Rattle.plan.specs.Plans.{ByJudge};
+ghost use Rattle.plan.specs.Tasks.{made};
 
 use crate::judge::Finding;
 use crate::tasks::{Limit, Tasks};
@@ -10,6 +14,7 @@ use crate::verdict::Verdict;
 use paced::row::Pace;
 use refusal::Refusal;
 use source::Source;
+use std::marker::Model;
 
 // A plan that takes tasks, over a bank. The judge and the search, in files of their own, are methods of it.
 #[derive(Drop)]
@@ -18,20 +23,36 @@ pub struct OpenPlan<S> {
     pub(crate) tasks: Tasks,
 }
 
-// A plan with its verdict and the bounds that go with it: the judge's finding taken apart, since clauses and a run name each by itself,
-// and a field for both would only put a word before each.
+impl<S> Model for OpenPlan<S> {
+    ghost use Rattle.plan.specs.Plans.{Plan};
+
+    ghost Value = { Plan S };
+
+    ghost view = { λ p. record { bank = p.bank; tasks = p.tasks } };
+}
+
+// A plan with its verdict and the bounds that go with it, and the fact that both are those of the judge: whoever makes such a plan has
+// to prove it.
 #[derive(Drop)]
-pub struct JudgedPlan<S> {
+pub struct JudgedPlan<S: Source> {
     bank: S,
     tasks: Tasks,
     verdict: Verdict,
     // the verdict says how many there are: a rule of the project, which has fixed memory and no heap here
     bounds: [u32; 16],
-    ghost held: { length bounds ≡ 16 },
-    ghost few: { bounds_told verdict ≤ 16 },
 }
 
-// What a judged plan consists of, in fixed memory as there: without its invariants, so that it can be taken apart.
+impl<S: Source> Model for JudgedPlan<S> {
+    ghost use Rattle.plan.specs.Plans.{Judgement, ByJudge};
+
+    ghost Value = { Judgement S };
+
+    ghost view = { λ p. record { plan = record { bank = p.bank; tasks = p.tasks }; verdict = p.verdict; bounds = p.bounds } };
+
+    ghost invariant = { λ p. ByJudge S.work (record { plan = record { bank = p.bank; tasks = p.tasks }; verdict = p.verdict; bounds = p.bounds }) };
+}
+
+// What a judged plan consists of, in fixed memory as there: without its invariant, so that it can be taken apart.
 #[derive(Drop)]
 pub struct Parts<S> {
     pub bank: S,
@@ -43,10 +64,7 @@ pub struct Parts<S> {
 impl<S> OpenPlan<S> {
     // A plan over a bank, with no task.
     pub fn new(bank: S) -> OpenPlan<S>
-        ensures bank { result.bank ≡ bank }
-        ensures count { result.tasks.parts.count ≡ 0 }
-        ensures rows { result.tasks.parts.rows ≡ replicate 16 unused }
-        ensures limits { result.tasks.limits ≡ replicate 16 unlimited }
+        ensures { result ≡ record { bank = bank; tasks = [] } }
     {
         OpenPlan {
             bank,
@@ -56,16 +74,17 @@ impl<S> OpenPlan<S> {
 
     // A plan over a bank, with the tasks of a table.
     pub fn with_tasks(bank: S, tasks: Tasks) -> OpenPlan<S>
-        ensures bank { result.bank ≡ bank }
-        ensures tasks { result.tasks ≡ tasks }
+        ensures { result ≡ record { bank = bank; tasks = tasks } }
     {
         OpenPlan { bank, tasks }
     }
 
     // One task more, below the others, or a refusal with the number that it would have had.
     pub fn add(&mut self, pace: Pace, limit: Limit) -> Result<(), Refusal>
+        ensures answer { result_err result ≡ refusal_of (task_fault self.old.tasks (asked pace.entry) limit) (length self.old.tasks + 1) }
         ensures bank { self.new.bank ≡ self.old.bank }
-        ensures added { MatchResult result (λ _. (task_fault self.old.tasks.limits self.old.tasks.parts.count pace.entry.period pace.entry.jitter limit.blocking limit.deadline limit.hold pace.entry.costs.now ≡ None) × (self.new.tasks.parts.rows ≡ slice_set self.old.tasks.parts.rows self.old.tasks.parts.count (fresh pace.entry.period pace.entry.jitter pace.entry.costs.now)) × (self.new.tasks.parts.count ≡ self.old.tasks.parts.count + 1) × (self.new.tasks.limits ≡ slice_set self.old.tasks.limits self.old.tasks.parts.count limit)) (λ e. (task_fault self.old.tasks.limits self.old.tasks.parts.count pace.entry.period pace.entry.jitter limit.blocking limit.deadline limit.hold pace.entry.costs.now ≡ Some e.fault) × (e.line ≡ 0) × (e.task ≡ self.old.tasks.parts.count + 1) × (self.new.tasks ≡ self.old.tasks)) }
+        ensures added { OnOk result (self.new.tasks ≡ self.old.tasks ++ made (asked pace.entry) limit ∷ []) }
+        ensures refused { OnErr result (self.new ≡ self.old) }
     {
         let task = self.tasks.count() + 1;
         self.tasks.add(pace, limit).map_err(|fault| Refusal {
@@ -80,12 +99,12 @@ impl<S> OpenPlan<S> {
 impl<S: Source> OpenPlan<S> {
     // Judges the plan and uses it up.
     pub fn judge(self) -> JudgedPlan<S>
-        ensures bank { result.bank ≡ self.bank }
-        ensures tasks { result.tasks ≡ self.tasks }
-        ensures judged { Judged (S.Source.demanded self.bank) (S.Source.parts self.bank) self.tasks.limits self.tasks.parts.count self.tasks.parts.rows result.verdict result.bounds }
-        ensures filled { Filled (S.Source.demanded self.bank) (S.Source.parts self.bank) self.tasks.limits self.tasks.parts.count self.tasks.parts.rows result.verdict result.bounds }
-        ensures only { OnlyJudged (S.Source.demanded self.bank) (S.Source.parts self.bank) self.tasks.limits self.tasks.parts.count self.tasks.parts.rows result.verdict result.bounds }
-        ensures stays { StaysAccepted (S.Source.demanded self.bank) (S.Source.parts self.bank) self.tasks.limits self.tasks.parts.count self.tasks.parts.rows result.verdict result.bounds }
+        ensures plan { result.plan ≡ self }
+        ensures judged { Judged (S.work self.bank) self.tasks result.verdict result.bounds }
+        ensures filled { Filled (S.work self.bank) self.tasks result.verdict result.bounds }
+        ensures only { OnlyJudged (S.work self.bank) self.tasks result.verdict result.bounds }
+        ensures stays { StaysAccepted (S.work self.bank) self.tasks result.verdict result.bounds }
+        ensures by_judge { ByJudge S.work result }
     {
         let Finding { verdict, bounds } = self.verdict_on();
         let OpenPlan { bank, tasks } = self;
@@ -98,26 +117,44 @@ impl<S: Source> OpenPlan<S> {
     }
 }
 
-impl<S> JudgedPlan<S> {
+// Each of these also tells what the type keeps: that verdict and bounds are those of the judge.
+impl<S: Source> JudgedPlan<S> {
     // Takes the plan apart.
     pub fn into_parts(self) -> Parts<S>
-        ensures bank { result.bank ≡ self.bank }
-        ensures tasks { result.tasks ≡ self.tasks }
+        ensures bank { result.bank ≡ self.plan.bank }
+        ensures tasks { result.tasks ≡ self.plan.tasks }
         ensures verdict { result.verdict ≡ self.verdict }
         ensures bounds { result.bounds ≡ self.bounds }
+        ensures by_judge { ByJudge S.work self }
     {
+        let bounds = self.bounds;
         Parts {
             bank: self.bank,
             tasks: self.tasks,
             verdict: self.verdict,
-            bounds: self.bounds,
+            bounds,
         }
     }
 
     pub fn verdict(&self) -> Verdict
-        ensures { result ≡ self.now.verdict }
+        ensures verdict { result ≡ self.now.verdict }
+        ensures by_judge { ByJudge S.work self.now }
     {
         self.verdict
+    }
+
+    // The tasks of the plan.
+    pub fn tasks(&self) -> &Tasks
+        ensures { result.now ≡ self.now.plan.tasks }
+    {
+        &self.tasks
+    }
+
+    // The bank of the plan.
+    pub fn bank(&self) -> &S
+        ensures { result.now ≡ self.now.plan.bank }
+    {
+        &self.bank
     }
 
     // Writes the bounds into a list that the caller lends, as the project wants it, as many as fit, and returns how many it
@@ -125,6 +162,7 @@ impl<S> JudgedPlan<S> {
     pub fn bounds(&self, list: &mut [u32]) -> usize
         ensures count { result ≡ min (bounds_told self.now.verdict) (length list.old) }
         ensures list { list.new ≡ take result self.now.bounds ++ drop result list.old }
+        ensures by_judge { ByJudge S.work self.now }
     {
         let count = list.len().min(self.verdict.bounds() as usize);
         list[..count].copy_from_slice(&self.bounds[..count]);

@@ -5,5 +5,5 @@ use Rattle.plan.proofs.stages.OpenPlan.find.Given as goal
 abbrev pub invariant-loop-place : goal.invariant-loop-place
 invariant-loop-place g l =
     (length l.bounds ≡ 16)
-    × ((i : ℕ) → i < l.place → Bounded (g.S.Source.demanded l.self.bank) (g.S.Source.parts l.self.bank) l.self.tasks.limits l.self.tasks.parts.count l.self.tasks.parts.rows i (get_or l.bounds i 0))
+    × ((i : ℕ) → i < l.place → Bounded (g.S.Source.work l.self.bank) l.self.tasks i (get_or l.bounds i 0))
     × ((i : ℕ) → l.place ≤ i → get_or l.bounds i 0 ≡ 0)

@@ -1,12 +1,15 @@
-use Rattle.plan.proofs.Once.{once}
+use Rattle.plan.proofs.Once.{once, stays_accepted}
 use Rattle.plan.proofs.stages.OpenPlan.verdict_on.Goals as goal
 
 pub returns : goal.returns
 returns g c =
-    let b = c.args.self.now.bank in
-    let t = c.args.self.now.tasks in
+    let bank = g.S.Source.work c.args.self.now.bank in
+    let tasks = c.args.self.now.tasks in
+    let found = c.find.result in
     record {
       judged = c.find.ensures.judged;
       filled = c.find.ensures.filled;
-      only = once (g.S.Source.demanded b) (g.S.Source.parts b) t.limits t.parts.count t.parts.rows c.find.result.verdict c.find.result.bounds c.find.ensures.judged;
+      only = once bank tasks found.verdict found.bounds c.find.ensures.judged;
+      stays = stays_accepted bank tasks found.verdict found.bounds c.find.ensures.judged;
+      fitting = c.find.ensures.fitting;
     }
