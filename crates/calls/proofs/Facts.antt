@@ -4,7 +4,7 @@ use Rattle.calls.specs.States.{upto, Plan, State, Fits}
 
 -- what the bank has in its backlogs and may still bring in m ticks
 abbrev pub flood : Plan → State → ℕ → ℕ
-flood p s m = upto (λ k. s.backlog k + s.bank k m) p.parts
+flood p s m = upto (λ k. s.backlog k + s.bank k m) p.bank.parts
 
 -- what tasks 1 to i may still bring in m ticks, with and without what is left of their jobs
 abbrev pub ahead : State → ℕ → ℕ → ℕ
@@ -31,17 +31,17 @@ pub record Busy (p : Plan) (s : State) (i m : ℕ) : Type 0 where
 
 -- where tasks have these units left: nobody holds, or a task does, for at most its longest hold and the units left of its job
 abbrev pub Holding : Plan → (ℕ → ℕ) → ℕ → ℕ → Type 0
-Holding p left x u = ((x ≡ 0) × (u ≡ 0)) ⊎ ((1 ≤ x) × (x ≤ p.tasks) × (1 ≤ u) × (u ≤ p.hold x) × (u ≤ left x))
+Holding p left x u = ((x ≡ 0) × (u ≡ 0)) ⊎ ((1 ≤ x) × (x ≤ p.tasks.parts) × (1 ≤ u) × (u ≤ p.hold x) × (u ≤ left x))
 
 -- a job is of a task, only a job has an age, and a hold is short and of a task
 pub record Sane (p : Plan) (s : State) : Type 0 where
   pub zeroth : s.left 0 ≡ 0
-  pub outside : (i : ℕ) → p.tasks < i → s.left i ≡ 0
+  pub outside : (i : ℕ) → p.tasks.parts < i → s.left i ≡ 0
   pub ageless : (i : ℕ) → s.left i ≡ 0 → s.age i ≡ 0
   pub hold : Holding p s.left s.holder s.held
 
 pub record Safe (p : Plan) (s : State) : Type 0 where
   pub fits : Fits p s
   pub sane : Sane p s
-  pub quiet : (i : ℕ) → 1 ≤ i → i ≤ p.tasks → (m : ℕ) × Quiet p s i m
-  pub busy : (i : ℕ) → 1 ≤ i → i ≤ p.tasks → 1 ≤ upto s.left i → (m : ℕ) × Busy p s i m
+  pub quiet : (i : ℕ) → 1 ≤ i → i ≤ p.tasks.parts → (m : ℕ) × Quiet p s i m
+  pub busy : (i : ℕ) → 1 ≤ i → i ≤ p.tasks.parts → 1 ≤ upto s.left i → (m : ℕ) × Busy p s i m

@@ -86,7 +86,7 @@ task_moves p i s t (LetGo j) (answers.Refused e) h l some = kept_view s.tasks t.
 task_moves p i s t (End j) (answers.Refused e) h l some = kept_view s.tasks t.tasks i l (ap (λ x. x.tasks) h)
 task_moves p i s t c a h l some = absurd h
 
-pub never_more : (p : Plan) (s t : State) (log : List Event) → Accepted p → Fresh s → Fits p s → Leads p s log t → NeverMore p.demand p.task_demand log
+pub never_more : (p : Plan) (s t : State) (log : List Event) → Accepted p → Fresh s → Fits p s → Leads p s log t → NeverMore p.bank.demand p.tasks.demand log
 never_more p s t log ok fresh fits leads = record { parts = parts; tasks = tasks }
   where
     -- the state at the start of a stretch, and the one at its end
@@ -96,12 +96,12 @@ never_more p s t log ok fresh fits leads = record { parts = parts; tasks = tasks
         let inner = parted p s outer.0 before stretch outer.1 in
         (inner.0, outer.0, (safe_along p s inner.0 before ok (safe_start p s ok fits fresh) inner.1).fits, inner.2)
 
-    parts : (before stretch rest : List Event) (a : Answer) (k : ℕ) → log ≡ before ++ then_tick stretch a ++ rest → let_in_part k (then_tick stretch a) ≤ p.demand k (ticks (then_tick stretch a))
+    parts : (before stretch rest : List Event) (a : Answer) (k : ℕ) → log ≡ before ++ then_tick stretch a ++ rest → let_in_part k (then_tick stretch a) ≤ p.bank.demand k (ticks (then_tick stretch a))
     parts before stretch rest a k e =
         let q = between before (then_tick stretch a) rest e in
         omega (arith, limited p (λ x. x.bank k) (part_units k) (part_moves p k) q.0 q.1 stretch a q.3, q.2.bank.within k (ticks (then_tick stretch a)))
 
-    tasks : (before stretch rest : List Event) (a : Answer) (i : ℕ) → log ≡ before ++ then_tick stretch a ++ rest → let_in_task i (then_tick stretch a) ≤ p.task_demand i (ticks (then_tick stretch a))
+    tasks : (before stretch rest : List Event) (a : Answer) (i : ℕ) → log ≡ before ++ then_tick stretch a ++ rest → let_in_task i (then_tick stretch a) ≤ p.tasks.demand i (ticks (then_tick stretch a))
     tasks before stretch rest a i e =
         let q = between before (then_tick stretch a) rest e in
         omega (arith, limited p (λ x. x.tasks i) (task_units i) (task_moves p i) q.0 q.1 stretch a q.3, q.2.tasks.within i (ticks (then_tick stretch a)))

@@ -50,7 +50,7 @@ module _ (p : Plan) (s t : State) (got : Got) (h : Passed p s got t) where
   ahead_point i m a = omega (arith, h.left i, tasks_shorter i m a)
 
   pub flood_passes : (m : ℕ) → 1 ≤ m → flood p t (m - 1) ≤ flood p s m
-  flood_passes m a = upto_below (λ k. t.backlog k + t.bank k (m - 1)) (λ k. s.backlog k + s.bank k m) p.parts (λ k b c. flood_point k m a)
+  flood_passes m a = upto_below (λ k. t.backlog k + t.bank k (m - 1)) (λ k. s.backlog k + s.bank k m) p.bank.parts (λ k b c. flood_point k m a)
 
   pub ahead_passes : (i m : ℕ) → 1 ≤ m → ahead t i (m - 1) ≤ ahead s i m
   ahead_passes i m a = upto_below (λ j. t.left j + t.tasks j (m - 1)) (λ j. s.left j + s.tasks j m) i (λ j b c. ahead_point j m a)
@@ -68,10 +68,10 @@ module _ (p : Plan) (s t : State) (got : Got) (h : Passed p s got t) where
   below_passes i = omega (arith, below_kept i, below_fewer i s.holder s.held (task_unit got s.holder))
 
 -- a task that gets the unit has a job
-pub has_job : (p : Plan) (s : State) (i : ℕ) (a : Option ℕ) → Sane p s → Due p s (Task i a) → (i ≤ p.tasks) × (1 ≤ s.left i)
+pub has_job : (p : Plan) (s : State) (i : ℕ) (a : Option ℕ) → Sane p s → Due p s (Task i a) → (i ≤ p.tasks.parts) × (1 ≤ s.left i)
 has_job p s i a sane due = go due.2 sane.hold
   where
-    go : (s.holder ≡ i) ⊎ ((s.holder ≡ 0) × (i ≤ p.tasks) × (1 ≤ s.left i) × ((j : ℕ) → 1 ≤ j → j < i → s.left j ≡ 0)) → Holding p s.left s.holder s.held → (i ≤ p.tasks) × (1 ≤ s.left i)
+    go : (s.holder ≡ i) ⊎ ((s.holder ≡ 0) × (i ≤ p.tasks.parts) × (1 ≤ s.left i) × ((j : ℕ) → 1 ≤ j → j < i → s.left j ≡ 0)) → Holding p s.left s.holder s.held → (i ≤ p.tasks.parts) × (1 ≤ s.left i)
     go (inr which) hold = (which.1, which.2)
     go (inl e) (inl hold) = absurd (omega (arith, due.1, e, hold.0))
     go (inl e) (inr hold) = (let same : s.left s.holder ≡ s.left i = ap s.left e in (omega arith, omega arith))
@@ -80,7 +80,7 @@ has_job p s i a sane due = go due.2 sane.hold
 module _ (p : Plan) (s t : State) (k : ℕ) (h : Passed p s (Part k) t) where
   pub flood_served : (m : ℕ) → 1 ≤ m → flood p t (m - 1) + 1 ≤ flood p s m
   flood_served m a =
-      upto_less (λ q. t.backlog q + t.bank q (m - 1)) (λ q. s.backlog q + s.bank q m) p.parts k h.due.0 h.due.1 (λ q b c. flood_point p s t (Part k) h q m a) here
+      upto_less (λ q. t.backlog q + t.bank q (m - 1)) (λ q. s.backlog q + s.bank q m) p.bank.parts k h.due.0 h.due.1 (λ q b c. flood_point p s t (Part k) h q m a) here
     where
       here : t.backlog k + t.bank k (m - 1) + 1 ≤ s.backlog k + s.bank k m
       here =
@@ -117,7 +117,7 @@ module _ (p : Plan) (s t : State) (j : ℕ) (a : Option ℕ) (sane : Sane p s) (
 
 module _ (p : Plan) (s : State) (ok : Accepted p) (safe : Safe p s) where
   -- all that is ahead of task i falls by the unit, if a job of tasks 1 to i is pending
-  all_served : (t : State) (got : Got) → Passed p s got t → (i m : ℕ) → i ≤ p.tasks → 1 ≤ m → 1 ≤ upto s.left i → flood p t (m - 1) + ahead t i (m - 1) + below t i + 1 ≤ flood p s m + ahead s i m + below s i
+  all_served : (t : State) (got : Got) → Passed p s got t → (i m : ℕ) → i ≤ p.tasks.parts → 1 ≤ m → 1 ≤ upto s.left i → flood p t (m - 1) + ahead t i (m - 1) + below t i + 1 ≤ flood p s m + ahead s i m + below s i
   all_served t Nobody h i m b c more =
       let none : upto s.left i ≡ 0 = upto_zero s.left i (λ j d e. h.due.2 j d (omega arith)) in
       absurd (omega arith)
@@ -137,27 +137,27 @@ module _ (p : Plan) (s : State) (ok : Accepted p) (safe : Safe p s) where
       d : below t i ≤ below s i
       d = below_passes p s t (Task j old) h i
 
-      go : (s.holder ≡ j) ⊎ ((s.holder ≡ 0) × (j ≤ p.tasks) × (1 ≤ s.left j) × ((k : ℕ) → 1 ≤ k → k < j → s.left k ≡ 0)) → (i < j) ⊎ (j ≤ i) → flood p t (m - 1) + ahead t i (m - 1) + below t i + 1 ≤ flood p s m + ahead s i m + below s i
+      go : (s.holder ≡ j) ⊎ ((s.holder ≡ 0) × (j ≤ p.tasks.parts) × (1 ≤ s.left j) × ((k : ℕ) → 1 ≤ k → k < j → s.left k ≡ 0)) → (i < j) ⊎ (j ≤ i) → flood p t (m - 1) + ahead t i (m - 1) + below t i + 1 ≤ flood p s m + ahead s i m + below s i
       go which (inr g) = let a' : ahead t i (m - 1) + 1 ≤ ahead s i m = ahead_served p s t j old safe.sane h i m g c in omega (arith, f, d)
       go (inl e) (inl l) = let d' : below t i + 1 ≤ below s i = below_served p s t j old safe.sane h i e l in omega (arith, f, a)
       go (inr e) (inl l) = let none : upto s.left i ≡ 0 = upto_zero s.left i (λ k x y. e.3 k x (omega arith)) in absurd (omega arith)
 
   -- a job that is pending is told no age above its bound
-  pub in_time : (i : ℕ) → 1 ≤ i → i ≤ p.tasks → 1 ≤ s.left i → s.age i + 1 ≤ p.bound i
+  pub in_time : (i : ℕ) → 1 ≤ i → i ≤ p.tasks.parts → 1 ≤ s.left i → s.age i + 1 ≤ p.bound i
   in_time i a b some =
       let more : 1 ≤ upto s.left i = omega (arith, upto_term s.left i i a (omega arith)) in
       let q = safe.busy i a b more in
       omega (arith, q.1.some, q.1.soon)
 
   -- only a task has a job
-  pub is_task : (i : ℕ) → 1 ≤ s.left i → (1 ≤ i) × (i ≤ p.tasks)
-  is_task i some = (first (cases_eq i 0), last (cases_lt p.tasks i))
+  pub is_task : (i : ℕ) → 1 ≤ s.left i → (1 ≤ i) × (i ≤ p.tasks.parts)
+  is_task i some = (first (cases_eq i 0), last (cases_lt p.tasks.parts i))
     where
       first : (i ≡ 0) ⊎ (i ≢ 0) → 1 ≤ i
       first (inl e) = let same : s.left i ≡ s.left 0 = ap s.left e in absurd (omega (arith, safe.sane.zeroth))
       first (inr ne) = omega arith
 
-      last : (p.tasks < i) ⊎ (i ≤ p.tasks) → i ≤ p.tasks
+      last : (p.tasks.parts < i) ⊎ (i ≤ p.tasks.parts) → i ≤ p.tasks.parts
       last (inl l) = absurd (omega (arith, safe.sane.outside i l))
       last (inr g) = g
 
@@ -182,7 +182,7 @@ module _ (p : Plan) (s : State) (ok : Accepted p) (safe : Safe p s) where
   age_older : (t : State) (got : Got) → Passed p s got t → (i : ℕ) → t.age i ≤ s.age i + 1
   age_older t got h i = let new = age_exact t got h i in grind (arith, nat_tests)
 
-  busy_passes : (t : State) (got : Got) → Passed p s got t → (i m : ℕ) → i ≤ p.tasks → 1 ≤ upto t.left i → Busy p s i m → Busy p t i (m - 1)
+  busy_passes : (t : State) (got : Got) → Passed p s got t → (i m : ℕ) → i ≤ p.tasks.parts → 1 ≤ upto t.left i → Busy p s i m → Busy p t i (m - 1)
   busy_passes t got h i m b more q =
       let some : 1 ≤ m = q.some in
       let soon : s.age i + m ≤ p.bound i = q.soon in
@@ -193,12 +193,12 @@ module _ (p : Plan) (s : State) (ok : Accepted p) (safe : Safe p s) where
       let old : t.age i ≤ s.age i + 1 = age_older t got h i in
       record { some = omega arith; soon = omega arith; fits = omega arith }
 
-  quiet_served : (t : State) (got : Got) → Passed p s got t → (i m : ℕ) → 1 ≤ upto t.backlog p.parts → Quiet p s i m → Quiet p t i (m - 1)
+  quiet_served : (t : State) (got : Got) → Passed p s got t → (i m : ℕ) → 1 ≤ upto t.backlog p.bank.parts → Quiet p s i m → Quiet p t i (m - 1)
   quiet_served t Nobody h i m more q =
-      let none : upto t.backlog p.parts ≡ 0 = upto_zero t.backlog p.parts (λ k a b. omega (arith, h.backlog k, h.due.0 k a b)) in
+      let none : upto t.backlog p.bank.parts ≡ 0 = upto_zero t.backlog p.bank.parts (λ k a b. omega (arith, h.backlog k, h.due.0 k a b)) in
       absurd (omega arith)
   quiet_served t (Task j old) h i m more q =
-      let none : upto t.backlog p.parts ≡ 0 = upto_zero t.backlog p.parts (λ k a b. omega (arith, h.backlog k, h.due.0 k a b)) in
+      let none : upto t.backlog p.bank.parts ≡ 0 = upto_zero t.backlog p.bank.parts (λ k a b. omega (arith, h.backlog k, h.due.0 k a b)) in
       absurd (omega arith)
   quiet_served t (Part k) h i m more q =
       let some : 1 ≤ m = q.some in
@@ -206,7 +206,7 @@ module _ (p : Plan) (s : State) (ok : Accepted p) (safe : Safe p s) where
       let whole : flood p s m + coming s i m + p.blocking i ≤ m = q.fits in
       let f : flood p t (m - 1) + 1 ≤ flood p s m = flood_served p s t k h m some in
       let c : coming t i (m - 1) ≤ coming s i m = coming_passes p s t (Part k) h i m some in
-      let split : flood p t (m - 1) ≡ upto t.backlog p.parts + upto (λ k. t.bank k (m - 1)) p.parts = upto_plus t.backlog (λ k. t.bank k (m - 1)) p.parts in
+      let split : flood p t (m - 1) ≡ upto t.backlog p.bank.parts + upto (λ k. t.bank k (m - 1)) p.bank.parts = upto_plus t.backlog (λ k. t.bank k (m - 1)) p.bank.parts in
       record { some = omega arith; soon = omega arith; fits = omega arith }
 
   sane_passes : (t : State) (got : Got) → Passed p s got t → Sane p t
@@ -231,10 +231,10 @@ module _ (p : Plan) (s : State) (ok : Accepted p) (safe : Safe p s) where
   safe_passed t got h fits = record {
     fits = fits;
     sane = sane_passes t got h;
-    quiet = λ i a b. quiet_at i a b (cases_lt 0 (upto t.backlog p.parts));
+    quiet = λ i a b. quiet_at i a b (cases_lt 0 (upto t.backlog p.bank.parts));
     busy = λ i a b more. (let q = safe.busy i a b (omega (arith, left_falls p s t got h i)) in (q.0 - 1, busy_passes t got h i q.0 b more q.1));
   }
     where
-      quiet_at : (i : ℕ) → 1 ≤ i → i ≤ p.tasks → (0 < upto t.backlog p.parts) ⊎ (upto t.backlog p.parts ≤ 0) → (m : ℕ) × Quiet p t i m
+      quiet_at : (i : ℕ) → 1 ≤ i → i ≤ p.tasks.parts → (0 < upto t.backlog p.bank.parts) ⊎ (upto t.backlog p.bank.parts ≤ 0) → (m : ℕ) × Quiet p t i m
       quiet_at i a b (inl l) = (let q = safe.quiet i a b in (q.0 - 1, quiet_served t got h i q.0 (omega arith) q.1))
-      quiet_at i a b (inr g) = (p.bound i, quiet_anew p t i ok fits a b (λ k c d. omega (arith, upto_term t.backlog p.parts k c d)))
+      quiet_at i a b (inr g) = (p.bound i, quiet_anew p t i ok fits a b (λ k c d. omega (arith, upto_term t.backlog p.bank.parts k c d)))

@@ -8,13 +8,13 @@ use Rattle.calls.proofs.Facts.{flood, ahead, coming, below, Quiet, Busy, Holding
 use Rattle.calls.proofs.Easing.{Eased}
 
 -- where no part has backlog, the bound itself is a window that has room for all
-pub quiet_anew : (p : Plan) (s : State) (i : ℕ) → Accepted p → Fits p s → 1 ≤ i → i ≤ p.tasks → ((k : ℕ) → 1 ≤ k → k ≤ p.parts → s.backlog k ≡ 0) → Quiet p s i (p.bound i)
+pub quiet_anew : (p : Plan) (s : State) (i : ℕ) → Accepted p → Fits p s → 1 ≤ i → i ≤ p.tasks.parts → ((k : ℕ) → 1 ≤ k → k ≤ p.bank.parts → s.backlog k ≡ 0) → Quiet p s i (p.bound i)
 quiet_anew p s i ok fits a b none =
-    let banks : flood p s (p.bound i) ≤ upto (λ k. p.demand k (p.bound i)) p.parts = upto_below (λ k. s.backlog k + s.bank k (p.bound i)) (λ k. p.demand k (p.bound i)) p.parts (λ k c d. omega (arith, none k c d, fits.bank.within k (p.bound i))) in
-    let others : upto (λ j. s.tasks j (p.bound i)) (i - 1) ≤ upto (λ j. p.task_demand j (p.bound i)) (i - 1) = upto_below (λ j. s.tasks j (p.bound i)) (λ j. p.task_demand j (p.bound i)) (i - 1) (λ j c d. fits.tasks.within j (p.bound i)) in
+    let banks : flood p s (p.bound i) ≤ upto (λ k. p.bank.demand k (p.bound i)) p.bank.parts = upto_below (λ k. s.backlog k + s.bank k (p.bound i)) (λ k. p.bank.demand k (p.bound i)) p.bank.parts (λ k c d. omega (arith, none k c d, fits.bank.within k (p.bound i))) in
+    let others : upto (λ j. s.tasks j (p.bound i)) (i - 1) ≤ upto (λ j. p.tasks.demand j (p.bound i)) (i - 1) = upto_below (λ j. s.tasks j (p.bound i)) (λ j. p.tasks.demand j (p.bound i)) (i - 1) (λ j c d. fits.tasks.within j (p.bound i)) in
     let last : coming s i (p.bound i) ≡ upto (λ j. s.tasks j (p.bound i)) (i - 1) + s.tasks i (p.bound i) = upto_last (λ j. s.tasks j (p.bound i)) i a in
     let own : s.tasks i (p.bound i) ≤ p.cost i = fits.one i (p.bound i) a b (omega arith) in
-    let room : p.blocking i + p.cost i + upto (λ k. p.demand k (p.bound i)) p.parts + upto (λ j. p.task_demand j (p.bound i)) (i - 1) ≤ p.bound i = ok.holds i a b in
+    let room : p.blocking i + p.cost i + upto (λ k. p.bank.demand k (p.bound i)) p.bank.parts + upto (λ j. p.tasks.demand j (p.bound i)) (i - 1) ≤ p.bound i = ok.holds i a b in
     record { some = ok.some i a b; soon = omega arith; fits = omega arith }
 
 pub safe_start : (p : Plan) (s : State) → Accepted p → Fits p s → Fresh s → Safe p s
@@ -32,7 +32,7 @@ safe_start p s ok fits fresh = record {
 
 module _ (p : Plan) (s t : State) (ok : Accepted p) (safe : Safe p s) (eased : Eased p s t) where
   flood_falls : (m : ℕ) → 1 ≤ m → flood p t m ≤ flood p s m
-  flood_falls m h = upto_below (λ k. t.backlog k + t.bank k m) (λ k. s.backlog k + s.bank k m) p.parts (λ k a b. eased.flood k m h)
+  flood_falls m h = upto_below (λ k. t.backlog k + t.bank k m) (λ k. s.backlog k + s.bank k m) p.bank.parts (λ k a b. eased.flood k m h)
 
   ahead_falls : (i m : ℕ) → 1 ≤ m → ahead t i m ≤ ahead s i m
   ahead_falls i m h = upto_below (λ j. t.left j + t.tasks j m) (λ j. s.left j + s.tasks j m) i (λ j a b. eased.ahead j m h)
@@ -86,6 +86,6 @@ module _ (p : Plan) (s t : State) (ok : Accepted p) (safe : Safe p s) (eased : E
     busy = λ i a b more. busy_at i a b more (cases_lt 0 (upto s.left i));
   }
     where
-      busy_at : (i : ℕ) → 1 ≤ i → i ≤ p.tasks → 1 ≤ upto t.left i → (0 < upto s.left i) ⊎ (upto s.left i ≤ 0) → (m : ℕ) × Busy p t i m
+      busy_at : (i : ℕ) → 1 ≤ i → i ≤ p.tasks.parts → 1 ≤ upto t.left i → (0 < upto s.left i) ⊎ (upto s.left i ≤ 0) → (m : ℕ) × Busy p t i m
       busy_at i a b more (inl l) = (let q = safe.busy i a b (omega arith) in (q.0, busy_stays i q.0 more q.1))
       busy_at i a b more (inr g) = (let q = safe.quiet i a b in (q.0, busy_begins i q.0 a more (omega arith) q.1))

@@ -6,4 +6,4 @@ use Rattle.calls.specs.States.{Plan, Accepted, State, Fits, Fresh}
 use Rattle.calls.specs.Steps.{Leads}
 
 abbrev pub Guaranteed : Type 0
-Guaranteed = (p : Plan) → Accepted p → (s t : State) (log : List Event) → Fresh s → Fits p s → Leads p s log t → NeverLate p.bound log × NeverMore p.demand p.task_demand log
+Guaranteed = (p : Plan) → Accepted p → (s t : State) (log : List Event) → Fresh s → Fits p s → Leads p s log t → NeverLate p.bound log × NeverMore p.bank.demand p.tasks.demand log

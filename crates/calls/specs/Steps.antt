@@ -19,7 +19,7 @@ pub record Offered (s : State) (k u : ℕ) (t : State) : Type 0 where
 -- a release of task i with u units is taken: no job of it was pending, and now one of age 0 is
 pub record Released (p : Plan) (s : State) (i u : ℕ) (t : State) : Type 0 where
   pub first : 1 ≤ i
-  pub last : i ≤ p.tasks
+  pub last : i ≤ p.tasks.parts
   pub some : 1 ≤ u
   pub none : s.left i ≡ 0
   pub taken : Taken s.tasks i u t.tasks
@@ -31,7 +31,7 @@ pub record Released (p : Plan) (s : State) (i u : ℕ) (t : State) : Type 0 wher
 -- longest hold and at most those left of its job
 pub record Granted (p : Plan) (s : State) (i u : ℕ) (t : State) : Type 0 where
   pub first : 1 ≤ i
-  pub last : i ≤ p.tasks
+  pub last : i ≤ p.tasks.parts
   pub nobody : s.holder ≡ 0
   pub some : 1 ≤ u
   pub short : u ≤ p.hold i
@@ -55,14 +55,14 @@ pub record Ended (s : State) (i : ℕ) (t : State) : Type 0 where
 
 -- no part has backlog
 abbrev pub Idle : Plan → State → Type 0
-Idle p s = (k : ℕ) → 1 ≤ k → k ≤ p.parts → s.backlog k ≡ 0
+Idle p s = (k : ℕ) → 1 ≤ k → k ≤ p.bank.parts → s.backlog k ≡ 0
 
 -- the one who gets the unit of a tick is the lowest-numbered part with backlog, else the holder, else the highest task that
 -- has a job, else nobody
 abbrev pub Due : Plan → State → Got → Type 0
-Due p s (Part k) = (1 ≤ k) × (k ≤ p.parts) × (1 ≤ s.backlog k) × ((j : ℕ) → 1 ≤ j → j < k → s.backlog j ≡ 0)
-Due p s (Task i a) = Idle p s × (1 ≤ i) × ((s.holder ≡ i) ⊎ ((s.holder ≡ 0) × (i ≤ p.tasks) × (1 ≤ s.left i) × ((j : ℕ) → 1 ≤ j → j < i → s.left j ≡ 0)))
-Due p s Nobody = Idle p s × (s.holder ≡ 0) × ((i : ℕ) → 1 ≤ i → i ≤ p.tasks → s.left i ≡ 0)
+Due p s (Part k) = (1 ≤ k) × (k ≤ p.bank.parts) × (1 ≤ s.backlog k) × ((j : ℕ) → 1 ≤ j → j < k → s.backlog j ≡ 0)
+Due p s (Task i a) = Idle p s × (1 ≤ i) × ((s.holder ≡ i) ⊎ ((s.holder ≡ 0) × (i ≤ p.tasks.parts) × (1 ≤ s.left i) × ((j : ℕ) → 1 ≤ j → j < i → s.left j ≡ 0)))
+Due p s Nobody = Idle p s × (s.holder ≡ 0) × ((i : ℕ) → 1 ≤ i → i ≤ p.tasks.parts → s.left i ≡ 0)
 
 -- 1 for the part that got the unit, 0 for any other
 abbrev pub part_unit : Got → ℕ → ℕ
