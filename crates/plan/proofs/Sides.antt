@@ -39,9 +39,9 @@ pub tasks_sound : (tasks : List Task) → Fitting tasks → Sound (work_in (rows
 tasks_sound tasks fitting = list_sound paced paced_owes (rows_of tasks) (omega (arith, length-map tasks (λ t. t.row), fitting.few)) (rows_fit tasks fitting)
 
 -- the fields of a table of tasks, as the list that is seen of it
-module _ (parts : FitRows 16) (limits : List Limit) (sides : Sides parts.list limits) (tasks : List Task) (seen : side_by_side parts.list limits ≡ tasks) where
+module _ (parts : FitRows 16) (limits : List Limit) (room : length limits ≡ 16) (tasks : List Task) (seen : side_by_side parts.list limits ≡ tasks) where
   short : length parts.list ≤ length limits
-  short = omega (arith, parts.few, sides.room)
+  short = omega (arith, parts.few, room)
 
   pub seen_rows : parts.list ≡ rows_of tasks
   seen_rows = sym (rows_sides parts.list limits short) ∙ ap rows_of seen
@@ -62,5 +62,5 @@ module _ (parts : FitRows 16) (limits : List Limit) (sides : Sides parts.list li
   pub seen_row : (i : ℕ) → i < length tasks → row_at parts.list i ≡ (task_at tasks i).row
   seen_row i h = ap (λ xs. row_at xs i) seen_rows ∙ get_or-map (λ t. t.row) tasks i _ blank h
 
-  pub seen_fitting : Fitting tasks
-  seen_fitting = subst Fitting seen sides.fitting
+  pub seen_fitting : Sides parts.list limits → Fitting tasks
+  seen_fitting sides = subst Fitting seen sides.fitting

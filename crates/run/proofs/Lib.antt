@@ -1,8 +1,9 @@
 pub mod Blanks
+pub mod Calls
 pub mod Faults
 pub mod Firsts
 pub mod Held
 pub mod Numbered
-pub mod Paces
 pub mod Steady
+pub mod Tables
 pub mod Ticks

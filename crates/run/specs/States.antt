@@ -1,11 +1,8 @@
--- The state of a run, by the numbers of parts and tasks, which count from 1.
-use Rattle.std.specs.Prelude.{ℕ, ◌+◌, ◌-◌, ◌≤◌, Bool, true, false, cond, List, Some, None, Option, option_map, replicate, take, nat_eq, nat_le, slice_index, slice_index_or}
+-- What waits in a run: backlogs, jobs and the hold, by the numbers of parts and tasks, which count from 1.
+use Rattle.std.specs.Prelude.{ℕ, ◌+◌, ◌-◌, ◌≤◌, Bool, false, cond, List, Some, None, Option, option_map, length, replicate, take, nat_eq, nat_le, slice_index, slice_index_or}
 use Rattle.std.specs.List.{position}
 use Rattle.std.specs.Option.{ForSome}
-use Rattle.plan.specs.Limits.{limit_at}
-use Rattle.plan.specs.declared.tasks.Limit.{Limit}
-use Rattle.plan.specs.declared.verdict.Verdict.{Verdict}
-use Rattle.plan.specs.declared.verdict.Verdict.TheVariants.{Accepted, NotJudgeable, Late}
+use Rattle.plan.specs.Tasks.{Task, task_at}
 use Rattle.run.specs.declared.state.Hold.{Hold}
 use Rattle.run.specs.declared.state.Job.{Job}
 use Rattle.run.specs.declared.state.State.{State}
@@ -30,8 +27,8 @@ abbrev pub age_of : List Job → ℕ → ℕ
 age_of jobs i = cond (nat_le 1 i) (slice_index_or jobs (i - 1) no_job).age 0
 
 -- the longest hold of task i
-abbrev pub hold_of : List Limit → ℕ → ℕ
-hold_of limits i = cond (nat_le 1 i) (limit_at limits (i - 1)).hold 0
+abbrev pub hold_of : List Task → ℕ → ℕ
+hold_of tasks i = cond (nat_le 1 i) (task_at tasks (i - 1)).limit.hold 0
 
 -- the task that a hold is of, 0 for no hold, and for how many more units it is
 abbrev pub holder_in : Option Hold → ℕ
@@ -54,16 +51,16 @@ abbrev pub holds : Option Hold → ℕ → Bool
 holds None i = false
 holds (Some h) i = nat_eq h.task i
 
--- a hold that a run of n tasks may have: of one of them, for no more units than are left of its job, nor than its longest hold
-pub record Within (n : ℕ) (limits : List Limit) (jobs : List Job) (h : Hold) : Type 0 where
+-- a hold that a run of these tasks may have: of one of them, for no more units than are left of its job, nor than its longest hold
+pub record Within (tasks : List Task) (jobs : List Job) (h : Hold) : Type 0 where
   pub first : 1 ≤ h.task
-  pub last : h.task ≤ n
+  pub last : h.task ≤ length tasks
   pub left : h.units ≤ left_of jobs h.task
-  pub short : h.units ≤ hold_of limits h.task
+  pub short : h.units ≤ hold_of tasks h.task
 
--- with n tasks of these limits, there is no hold but such a one
-abbrev pub Known : ℕ → List Limit → State → Type 0
-Known n limits s = ForSome s.hold (λ h. Within n limits s.jobs h)
+-- there is no hold but such a one
+abbrev pub Known : List Task → State → Type 0
+Known tasks s = ForSome s.hold (λ h. Within tasks s.jobs h)
 
 -- a hold has a unit left
 abbrev pub Lasting : State → Type 0
@@ -80,9 +77,3 @@ first_backlog backlogs n = first_at (λ units. nat_le 1 units) backlogs n
 -- of n tasks, the highest with a pending job
 abbrev pub first_pending : List Job → ℕ → Option ℕ
 first_pending jobs n = first_at (λ job. nat_le 1 job.left) jobs n
-
--- a plan with that verdict is accepted
-abbrev pub is_accepted : Verdict → Bool
-is_accepted (Accepted n) = true
-is_accepted NotJudgeable = false
-is_accepted (Late i) = false

@@ -1,15 +1,15 @@
 // A run of a judged plan: its calls, what each answers and changes, and when it is refused.
 #![tactic(auto)]
 
-ghost use Rattle.std.specs.Prelude.{◌≡◌, ℕ, ◌+◌, ◌<◌, ◌≤◌, min, true, false, length, if◌then◌else◌, Some, None, IfOk, IfErr, MatchResult, is_some, unwrap_or};
-ghost use Rattle.std.specs.List.{sum};
+ghost use Rattle.std.specs.Prelude.{◌≡◌, ℕ, ◌<◌, ◌≤◌, length, Some, MatchResult, IfOk, OnOk, OnErr};
 ghost use Rattle.std.specs.Option.{ForSome};
-ghost use Rattle.source.specs.Facts.{Kept, Taken, Ticked};
-ghost use Rattle.paced.specs.Tables.{row_at, demands_of, allowances_of, Gives, Passes};
-ghost use Rattle.plan.specs.Limits.{limit_at};
-ghost use Rattle.run.specs.Faults.{named, range_fault, number_fault, units_fault, numbered_fault, offer_fault, release_fault, grantable, hold_fault, let_go_fault, end_fault, tick_fault};
-ghost use Rattle.run.specs.States.{at_start, is_accepted, Known, Lasting};
-ghost use Rattle.run.specs.Steps.{grown, released, granted, let_go, ended, due, passed};
+ghost use Rattle.std.specs.Result.{result_err, result_ok};
+ghost use Rattle.source.specs.Facts.{Taken, Ticked};
+ghost use Rattle.plan.specs.Plans.{ByJudge};
+ghost use Rattle.run.specs.Faults.{range_fault, tick_fault, named_fault, offer_fault, release_fault, hold_fault, let_go_fault, end_fault, grantable};
+ghost use Rattle.run.specs.Faults.{offer_refusal, release_refusal, hold_refusal, let_go_refusal, end_refusal, tick_refusal};
+ghost use Rattle.run.specs.States.{hold_of};
+ghost use Rattle.run.specs.Runs.{Offered, TickPassed, due_in, is_accepted, run_ended, run_granted, run_let_go, run_released, started, tasks_allowed, tasks_work};
 
 mod driving;
 pub mod state;
@@ -24,34 +24,37 @@ use plan::tasks::Limit;
 use plan::verdict::Verdict;
 use refusal::{Fault, Refusal};
 use source::{Gate, Source};
+use std::marker::Model;
 
 // What a run keeps from its start on: the limits and bounds of the tasks, by place, in fixed memory as the project wants it and in two
 // arrays as a judged plan hands them over; and, if the plan is accepted, how many parts the bank has.
 #[derive(Clone, Copy)]
-pub struct Terms {
+struct Terms {
     limits: [Limit; 16],
     bounds: [u32; 16],
     parts: Option<u32>,
-    ghost limits_held: { length limits ≡ 16 },
-    ghost bounds_held: { length bounds ≡ 16 },
-    ghost few: { ForSome parts (λ n. n ≤ 16) },
 }
 
-// A run: the bank, the paced parts of the tasks, the state, and what is fixed from the start. Deadlines and holds are as in a plan's
-// tasks; a running table is not at rest, so table and limits are no `Tasks`.
+// A run: the bank, the paced parts of the tasks, the state, and what is fixed from the start. A running table is not at rest, so table and
+// limits are no `Tasks`. That a run was started from a judged plan is a fact in its type: whoever makes a run has to prove it.
 #[derive(Drop)]
-pub struct Run<G> {
+pub struct Run<G: Gate> {
     bank: G,
     table: Table<16>,
     terms: Terms,
     state: State,
-    ghost backlogs_held: { length state.backlogs ≡ 16 },
-    ghost jobs_held: { length state.jobs ≡ 16 },
-    ghost waiting: { sum state.backlogs ≤ 1000000 },
-    ghost known: { Known table.count terms.limits state },
-    ghost lasting: { Lasting state },
-    ghost deadlines: { (i : ℕ) → i < table.count → (limit_at terms.limits i).deadline + (row_at table.rows i).jitter ≤ (row_at table.rows i).period },
-    ghost holds: { (i j : ℕ) → i < j → j < table.count → (limit_at terms.limits j).hold ≤ (limit_at terms.limits i).blocking },
+    ghost room: { length terms.limits ≡ 16 },
+}
+
+impl<G: Gate> Model for Run<G> {
+    ghost use Rattle.plan.specs.Tasks.{side_by_side};
+    ghost use Rattle.run.specs.Runs.{Now, Held};
+
+    ghost Value = { Now G };
+
+    ghost view = { λ r. record { bank = r.bank; tasks = side_by_side r.table.list r.terms.limits; bounds = r.terms.bounds; parts = r.terms.parts; state = r.state } };
+
+    ghost invariant = { λ r. Held G.work (record { bank = r.bank; tasks = side_by_side r.table.list r.terms.limits; bounds = r.terms.bounds; parts = r.terms.parts; state = r.state }) };
 }
 
 fn is_accepted(verdict: Verdict) -> bool
@@ -62,7 +65,7 @@ fn is_accepted(verdict: Verdict) -> bool
 
 // Looks for what is wrong with a number that has to be from 1 to the most: that fault, if it is not.
 fn check_range(number: u64, most: u64, fault: Fault) -> Result<(), Fault>
-    ensures { MatchResult result (λ _. range_fault fault most number ≡ None) (λ found. range_fault fault most number ≡ Some found) }
+    ensures { result_err result ≡ range_fault fault most number }
 {
     if !(1..=most).contains(&number) {
         return Err(fault);
@@ -70,24 +73,17 @@ fn check_range(number: u64, most: u64, fault: Fault) -> Result<(), Fault>
     Ok(())
 }
 
-impl<G: Source> Run<G> {
+impl<G: Gate> Run<G> {
     // Starts a run of a judged plan and uses the plan up: with no backlog, no job and no hold. The bank of an accepted plan
     // has at most 16 parts, so all of them count.
     pub fn start(judged: JudgedPlan<G>) -> Run<G>
-        ensures bank { result.bank ≡ judged.bank }
-        ensures table { result.table ≡ judged.tasks.parts }
-        ensures at_rest { (i : ℕ) → i < result.table.count → ((row_at result.table.rows i).level ≡ 0) × ((row_at result.table.rows i).place ≡ 0) }
-        ensures limits { result.terms.limits ≡ judged.tasks.limits }
-        ensures accepted { is_some result.terms.parts ≡ is_accepted judged.verdict }
-        ensures parts { result.terms.parts ≡ (if is_accepted judged.verdict then Some (min (G.Source.parts judged.bank) 16) else None) }
-        ensures bounds { result.terms.bounds ≡ judged.bounds }
-        ensures state { result.state ≡ at_start }
+        ensures started { result ≡ started G.work judged }
+        ensures by_judge { ByJudge G.work judged }
     {
         let plan = judged.into_parts();
         let accepted = is_accepted(plan.verdict);
         let parts = accepted.then(|| plan.bank.count().min(PLACES));
-        let table = plan.tasks.table();
-        let limits = plan.tasks.limits();
+        let (table, limits) = plan.tasks.into_parts();
         let terms = Terms {
             limits,
             bounds: plan.bounds,
@@ -103,14 +99,38 @@ impl<G: Source> Run<G> {
 
     // How many parts the bank has, or that the plan is not accepted.
     fn parts(&self) -> Result<u32, Fault>
-        ensures { MatchResult result (λ parts. self.now.terms.parts ≡ Some parts) (λ fault. tick_fault self.now.terms.parts ≡ Some fault) }
+        ensures { MatchResult result (λ parts. self.now.parts ≡ Some parts) (λ fault. tick_fault self.now ≡ Some fault) }
     {
         self.terms.parts.ok_or(Fault::NotAccepted)
     }
 
+    // How many tasks there are.
+    fn task_count(&self) -> u32
+        ensures count { result ≡ length self.now.tasks }
+        ensures few { result ≤ 16 }
+    {
+        self.table.count()
+    }
+
+    // The most that a task may bring in this tick, 0 also for a number that is no task.
+    fn most_of(&self, task: u32) -> u64
+        ensures { result ≡ tasks_allowed self.now task 1 }
+    {
+        self.table.allowance(task).unwrap_or(0)
+    }
+
+    // The longest hold of a task.
+    fn longest_hold(&self, task: u32) -> u64
+        requires first { 1 ≤ task }
+        requires last { task ≤ length self.now.tasks }
+        ensures { result ≡ hold_of self.now.tasks task }
+    {
+        u64::from(self.terms.limits[(task - 1) as usize].hold)
+    }
+
     // Looks for what is wrong with an offer.
     fn check_offer(&self, part: u32, units: u64) -> Result<(), Fault>
-        ensures { MatchResult result (λ _. offer_fault self.now.terms.parts (G.Source.allowed self.now.bank part 1) self.now.state.backlogs part units ≡ None) (λ fault. offer_fault self.now.terms.parts (G.Source.allowed self.now.bank part 1) self.now.state.backlogs part units ≡ Some fault) }
+        ensures { result_err result ≡ offer_fault G.allowed self.now part units }
     {
         check_range(part.into(), self.parts()?.into(), Fault::NoSuchNumber)?;
         let most = self.bank.allowance(part).unwrap_or(0);
@@ -123,19 +143,18 @@ impl<G: Source> Run<G> {
 
     // Looks for what is wrong with a task, or with the run.
     fn check_task(&self, task: u32) -> Result<(), Fault>
-        ensures { MatchResult result (λ _. numbered_fault self.now.terms.parts self.now.table.count task ≡ None) (λ fault. numbered_fault self.now.terms.parts self.now.table.count task ≡ Some fault) }
+        ensures { result_err result ≡ named_fault self.now task }
     {
         self.parts()?;
-        check_range(task.into(), self.table.count().into(), Fault::NoSuchNumber)
+        check_range(task.into(), self.task_count().into(), Fault::NoSuchNumber)
     }
 
     // Looks for what is wrong with a release. Like the checks below it asks what all ask, and then its own question.
     fn check_release(&self, task: u32, units: u64) -> Result<(), Fault>
-        ensures { MatchResult result (λ _. release_fault self.now.terms.parts self.now.table.count (allowances_of self.now.table.count (row_at self.now.table.rows) task 1) self.now.state.jobs task units ≡ None) (λ fault. release_fault self.now.terms.parts self.now.table.count (allowances_of self.now.table.count (row_at self.now.table.rows) task 1) self.now.state.jobs task units ≡ Some fault) }
+        ensures { result_err result ≡ release_fault self.now task units }
     {
         self.check_task(task)?;
-        let most = self.table.allowance(task).unwrap_or(0);
-        check_range(units, most, Fault::UnitsNotAllowed)?;
+        check_range(units, self.most_of(task), Fault::UnitsNotAllowed)?;
         if self.state.left_of(task) > 0 {
             return Err(Fault::JobPending);
         }
@@ -145,14 +164,13 @@ impl<G: Source> Run<G> {
     // Whether a hold is granted to a task.
     fn grants(&self, task: u32, units: u64) -> bool
         requires first { 1 ≤ task }
-        requires last { task ≤ self.now.table.count }
-        ensures { result ≡ grantable self.now.table.count self.now.terms.limits self.now.state task units }
+        requires last { task ≤ length self.now.tasks }
+        ensures { result ≡ grantable self.now.tasks self.now.state task units }
     {
         // a test for each rule of a hold
-        let place = (task - 1) as usize;
-        let highest = self.state.first_pending(self.table.count());
-        let longest = u64::from(self.terms.limits[place].hold);
-        let left = self.state.jobs[place].left;
+        let highest = self.state.first_pending(self.task_count());
+        let longest = self.longest_hold(task);
+        let left = self.state.left_of(task);
         self.state.hold.is_none()
             && highest == Some(task)
             && 1 <= units
@@ -162,7 +180,7 @@ impl<G: Source> Run<G> {
 
     // Looks for what is wrong with a hold.
     fn check_hold(&self, task: u32, units: u64) -> Result<(), Fault>
-        ensures { MatchResult result (λ _. hold_fault self.now.terms.parts self.now.table.count self.now.terms.limits self.now.state task units ≡ None) (λ fault. hold_fault self.now.terms.parts self.now.table.count self.now.terms.limits self.now.state task units ≡ Some fault) }
+        ensures { result_err result ≡ hold_fault self.now task units }
     {
         self.check_task(task)?;
         if !self.grants(task, units) {
@@ -173,7 +191,7 @@ impl<G: Source> Run<G> {
 
     // Looks for what is wrong with letting go.
     fn check_let_go(&self, task: u32) -> Result<(), Fault>
-        ensures { MatchResult result (λ _. let_go_fault self.now.terms.parts self.now.table.count self.now.state task ≡ None) (λ fault. let_go_fault self.now.terms.parts self.now.table.count self.now.state task ≡ Some fault) }
+        ensures { result_err result ≡ let_go_fault self.now task }
     {
         self.check_task(task)?;
         if !self.state.is_held_by(task) {
@@ -184,7 +202,7 @@ impl<G: Source> Run<G> {
 
     // Looks for what is wrong with ending a job.
     fn check_end(&self, task: u32) -> Result<(), Fault>
-        ensures { MatchResult result (λ _. end_fault self.now.terms.parts self.now.table.count self.now.state.jobs task ≡ None) (λ fault. end_fault self.now.terms.parts self.now.table.count self.now.state.jobs task ≡ Some fault) }
+        ensures { result_err result ≡ end_fault self.now task }
     {
         self.check_task(task)?;
         if self.state.left_of(task) < 1 {
@@ -194,21 +212,17 @@ impl<G: Source> Run<G> {
     }
 }
 
-// What a refusal leaves, and what a call does not change, each call says by itself: no type can say it of both ends of a call.
 // A number and its units are two values, as a call has them.
 impl<G: Gate> Run<G> {
     // Offers units to a part of the bank. Refused are, the first that applies: a run of a plan that is not accepted; a
     // number that is no part; units outside 1 to what the part may bring in this tick; backlogs above 1,000,000 units in
     // all.
     pub fn offer(&mut self, part: u32, units: u64) -> Result<(), Refusal>
-        ensures answer { MatchResult result (λ _. offer_fault self.old.terms.parts (G.Source.allowed self.old.bank part 1) self.old.state.backlogs part units ≡ None) (λ e. (offer_fault self.old.terms.parts (G.Source.allowed self.old.bank part 1) self.old.state.backlogs part units ≡ Some e.fault) × (e.line ≡ 0) × (e.task ≡ 0)) }
-        ensures refused { IfErr result (λ _. self.new ≡ self.old) }
-        ensures state { IfOk result (λ _. self.new.state ≡ grown self.old.state part units) }
-        ensures bank { IfOk result (λ _. G.Gate.takes self.old.bank part units self.new.bank) }
-        ensures taken { IfOk result (λ _. Taken (G.Source.allowed self.old.bank) part units (G.Source.allowed self.new.bank)) }
-        ensures kept { Kept (G.Source.parts self.old.bank) (G.Source.demanded self.old.bank) (G.Source.parts self.new.bank) (G.Source.demanded self.new.bank) }
-        ensures table { self.new.table ≡ self.old.table }
-        ensures fixed { self.new.terms ≡ self.old.terms }
+        ensures answer { result_err result ≡ offer_refusal G.allowed self.old part units }
+        ensures offered { OnOk result (Offered G.moves part units self.old self.new) }
+        ensures refused { OnErr result (self.new ≡ self.old) }
+        ensures taken { OnOk result (Taken (G.allowed self.old.bank) part units (G.allowed self.new.bank)) }
+        ensures kept { G.work self.new.bank ≡ G.work self.old.bank }
     {
         self.check_offer(part, units)?;
         self.state.grow(part, units);
@@ -219,14 +233,11 @@ impl<G: Gate> Run<G> {
     // Releases a job of a task with some units. Refused are, the first that applies: a run of a plan that is not accepted; a
     // number that is no task; units outside 1 to what the task may bring in this tick; a task whose job is pending.
     pub fn release(&mut self, task: u32, units: u64) -> Result<(), Refusal>
-        ensures answer { MatchResult result (λ _. release_fault self.old.terms.parts self.old.table.count (allowances_of self.old.table.count (row_at self.old.table.rows) task 1) self.old.state.jobs task units ≡ None) (λ e. (release_fault self.old.terms.parts self.old.table.count (allowances_of self.old.table.count (row_at self.old.table.rows) task 1) self.old.state.jobs task units ≡ Some e.fault) × (e.line ≡ 0) × (e.task ≡ named e.fault task)) }
-        ensures refused { IfErr result (λ _. self.new ≡ self.old) }
-        ensures state { IfOk result (λ _. self.new.state ≡ released self.old.state task units) }
-        ensures bank { self.new.bank ≡ self.old.bank }
-        ensures table { IfOk result (λ _. Gives self.old.table.count self.old.table.rows task units self.new.table.count self.new.table.rows) }
-        ensures taken { IfOk result (λ _. Taken (allowances_of self.old.table.count (row_at self.old.table.rows)) task units (allowances_of self.new.table.count (row_at self.new.table.rows))) }
-        ensures kept { Kept self.old.table.count (demands_of self.old.table.count (row_at self.old.table.rows)) self.new.table.count (demands_of self.new.table.count (row_at self.new.table.rows)) }
-        ensures fixed { self.new.terms ≡ self.old.terms }
+        ensures answer { result_err result ≡ release_refusal self.old task units }
+        ensures released { OnOk result (self.new ≡ run_released self.old task units) }
+        ensures refused { OnErr result (self.new ≡ self.old) }
+        ensures taken { OnOk result (Taken (tasks_allowed self.old) task units (tasks_allowed self.new)) }
+        ensures kept { tasks_work self.new ≡ tasks_work self.old }
     {
         // the closure is said in each call, where the task is at hand
         self.check_release(task, units)
@@ -240,12 +251,9 @@ impl<G: Gate> Run<G> {
     // accepted; a number that is no task; a hold while another is going on, of a task that is not the highest with a
     // pending job, or of units outside 1 to the task's longest hold and to those left of its job.
     pub fn hold(&mut self, task: u32, units: u64) -> Result<(), Refusal>
-        ensures answer { MatchResult result (λ _. hold_fault self.old.terms.parts self.old.table.count self.old.terms.limits self.old.state task units ≡ None) (λ e. (hold_fault self.old.terms.parts self.old.table.count self.old.terms.limits self.old.state task units ≡ Some e.fault) × (e.line ≡ 0) × (e.task ≡ named e.fault task)) }
-        ensures refused { IfErr result (λ _. self.new ≡ self.old) }
-        ensures state { IfOk result (λ _. self.new.state ≡ granted self.old.state task units) }
-        ensures bank { self.new.bank ≡ self.old.bank }
-        ensures table { self.new.table ≡ self.old.table }
-        ensures fixed { self.new.terms ≡ self.old.terms }
+        ensures answer { result_err result ≡ hold_refusal self.old task units }
+        ensures granted { OnOk result (self.new ≡ run_granted self.old task units) }
+        ensures refused { OnErr result (self.new ≡ self.old) }
     {
         self.check_hold(task, units)
             .map_err(|fault| Refusal::new(fault, 0, task))?;
@@ -256,12 +264,9 @@ impl<G: Gate> Run<G> {
     // A task lets go of the processor. Refused are, the first that applies: a run of a plan that is not accepted; a number
     // that is no task; a task that does not hold.
     pub fn let_go(&mut self, task: u32) -> Result<(), Refusal>
-        ensures answer { MatchResult result (λ _. let_go_fault self.old.terms.parts self.old.table.count self.old.state task ≡ None) (λ e. (let_go_fault self.old.terms.parts self.old.table.count self.old.state task ≡ Some e.fault) × (e.line ≡ 0) × (e.task ≡ named e.fault task)) }
-        ensures refused { IfErr result (λ _. self.new ≡ self.old) }
-        ensures state { IfOk result (λ _. self.new.state ≡ let_go self.old.state) }
-        ensures bank { self.new.bank ≡ self.old.bank }
-        ensures table { self.new.table ≡ self.old.table }
-        ensures fixed { self.new.terms ≡ self.old.terms }
+        ensures answer { result_err result ≡ let_go_refusal self.old task }
+        ensures let_go { OnOk result (self.new ≡ run_let_go self.old) }
+        ensures refused { OnErr result (self.new ≡ self.old) }
     {
         self.check_let_go(task)
             .map_err(|fault| Refusal::new(fault, 0, task))?;
@@ -272,12 +277,9 @@ impl<G: Gate> Run<G> {
     // Ends the job of a task, and any hold of that task. Refused are, the first that applies: a run of a plan that is not
     // accepted; a number that is no task; a task that has no job.
     pub fn end(&mut self, task: u32) -> Result<(), Refusal>
-        ensures answer { MatchResult result (λ _. end_fault self.old.terms.parts self.old.table.count self.old.state.jobs task ≡ None) (λ e. (end_fault self.old.terms.parts self.old.table.count self.old.state.jobs task ≡ Some e.fault) × (e.line ≡ 0) × (e.task ≡ named e.fault task)) }
-        ensures refused { IfErr result (λ _. self.new ≡ self.old) }
-        ensures state { IfOk result (λ _. self.new.state ≡ ended self.old.state task) }
-        ensures bank { self.new.bank ≡ self.old.bank }
-        ensures table { self.new.table ≡ self.old.table }
-        ensures fixed { self.new.terms ≡ self.old.terms }
+        ensures answer { result_err result ≡ end_refusal self.old task }
+        ensures ended { OnOk result (self.new ≡ run_ended self.old task) }
+        ensures refused { OnErr result (self.new ≡ self.old) }
     {
         self.check_end(task)
             .map_err(|fault| Refusal::new(fault, 0, task))?;
@@ -288,19 +290,17 @@ impl<G: Gate> Run<G> {
     // A tick passes: one unit is given, and the bank and the tasks tick. Refused is only a run of a plan that is not
     // accepted.
     pub fn tick(&mut self) -> Result<Got, Refusal>
-        ensures answer { MatchResult result (λ got. (tick_fault self.old.terms.parts ≡ None) × (got ≡ due (unwrap_or self.old.terms.parts 0) self.old.table.count self.old.state)) (λ e. (tick_fault self.old.terms.parts ≡ Some e.fault) × (e.line ≡ 0) × (e.task ≡ 0)) }
-        ensures refused { IfErr result (λ _. self.new ≡ self.old) }
-        ensures state { IfOk result (λ got. self.new.state ≡ passed self.old.state got) }
-        ensures bank { IfOk result (λ _. G.Gate.ticks self.old.bank self.new.bank) }
-        ensures ticked { IfOk result (λ _. Ticked (G.Source.allowed self.old.bank) (G.Source.allowed self.new.bank)) }
-        ensures kept { Kept (G.Source.parts self.old.bank) (G.Source.demanded self.old.bank) (G.Source.parts self.new.bank) (G.Source.demanded self.new.bank) }
-        ensures table { IfOk result (λ _. Passes self.old.table.count self.old.table.rows self.new.table.count self.new.table.rows) }
-        ensures tasks_ticked { IfOk result (λ _. Ticked (allowances_of self.old.table.count (row_at self.old.table.rows)) (allowances_of self.new.table.count (row_at self.new.table.rows))) }
-        ensures tasks_kept { Kept self.old.table.count (demands_of self.old.table.count (row_at self.old.table.rows)) self.new.table.count (demands_of self.new.table.count (row_at self.new.table.rows)) }
-        ensures fixed { self.new.terms ≡ self.old.terms }
+        ensures answer { result_err result ≡ tick_refusal self.old }
+        ensures got { IfOk result (λ got. got ≡ due_in self.old) }
+        ensures passed { OnOk result (TickPassed G.moves self.old self.new) }
+        ensures refused { OnErr result (self.new ≡ self.old) }
+        ensures ticked { OnOk result (Ticked (G.allowed self.old.bank) (G.allowed self.new.bank)) }
+        ensures kept { G.work self.new.bank ≡ G.work self.old.bank }
+        ensures tasks_ticked { OnOk result (Ticked (tasks_allowed self.old) (tasks_allowed self.new)) }
+        ensures tasks_kept { tasks_work self.new ≡ tasks_work self.old }
     {
         let parts = self.parts()?;
-        let got = self.state.due(parts, self.table.count());
+        let got = self.state.due(parts, self.task_count());
         self.state.pass(got);
         self.bank.tick();
         self.table.tick();

@@ -1,24 +1,36 @@
-use Rattle.std.proofs.Common.{rules, ◌≡◌, None, arith}
-use Rattle.paced.specs.Tables.{row_at, allowances_of}
+use Rattle.std.proofs.Common.{◌≡◌, None, ap, ◌∙◌, rules}
 use Rattle.run.specs.Faults.{release_fault}
-use Rattle.run.specs.Steps.{released}
-use Rattle.run.proofs.Faults.{releasable}
-use Rattle.run.proofs.Held.{steady, held_paced}
-use Rattle.run.proofs.Paces.{given_deadlines}
-use Rattle.run.proofs.Steady.{released_steady}
+use Rattle.run.specs.Runs.{run_released}
+use Rattle.run.proofs.Calls.{after_release, release_facts, release_seen, release_taken}
 use Rattle.run.proofs.Run.release.Goals as goal
+
+pub give-requires : goal.give-requires
+give-requires g c =
+    let s = c.self.inside in
+    let clean : release_fault c.args.self.now c.args.task c.args.units ≡ None = search rules in
+    release_taken g.G.Source.work s.bank s.table s.terms.limits s.room s.terms.bounds s.terms.parts s.state c.args.task c.args.units (ap (λ r. release_fault r c.args.task c.args.units) c.self.view_is ∙ clean)
 
 pub invariant_of-self : goal.invariant_of-self
 invariant_of-self g c =
-    let s = c.args.self.now in
-    let i = c.args.task in
-    let u = c.args.units in
-    let n = s.table.count in
-    let rows = s.table.rows in
-    let t = c.give.new.gate in
-    let most = allowances_of n (row_at rows) i 1 in
-    let clean : release_fault s.terms.parts n most s.state.jobs i u ≡ None = search rules in
-    let task = releasable s.terms.parts n most s.state.jobs i u clean in
-    let moved = c.give.ensures.takes in
-    let paced = given_deadlines s.terms.limits n rows i u t.count t.rows (omega (arith, s.table.held, s.table.few)) moved s.deadlines in
-    held_paced s t.count t.rows (released s.state i u) moved.count paced c.release.ensures (released_steady s.terms.limits n s.state (steady s) s.lasting i u task.first task.none) s.lasting
+    let s = c.self.inside in
+    let clean : release_fault c.args.self.now c.args.task c.args.units ≡ None = search rules in
+    after_release g.G.Source.work s.bank s.table s.terms.limits s.room s.terms.bounds s.terms.parts s.state c.self.invariant c.args.task c.args.units c.give.new.gate (ap (λ r. release_fault r c.args.task c.args.units) c.self.view_is ∙ clean) c.give.ensures.takes c.release.new.self c.release.ensures
+
+pub returns-clause-released : goal.returns-clause-released
+returns-clause-released g c =
+    let s = c.self.inside in
+    let clean : release_fault c.args.self.now c.args.task c.args.units ≡ None = search rules in
+    release_seen g.G.Source.work s.bank s.table s.terms.limits s.room s.terms.bounds s.terms.parts s.state c.args.task c.args.units c.give.new.gate (ap (λ r. release_fault r c.args.task c.args.units) c.self.view_is ∙ clean) c.give.ensures.takes c.release.new.self c.release.ensures
+    ∙ ap (λ r. run_released r c.args.task c.args.units) c.self.view_is
+
+pub returns-clause-taken : goal.returns-clause-taken
+returns-clause-taken g c =
+    let s = c.self.inside in
+    let facts = release_facts g.G.Source.work s.bank s.table s.terms.limits s.room s.terms.bounds s.terms.parts s.state c.args.task c.args.units c.give.new.gate c.give.ensures.taken c.give.ensures.kept c.args.self.now c.self.view_is in
+    facts.0
+
+pub returns-clause-kept : goal.returns-clause-kept
+returns-clause-kept g c =
+    let s = c.self.inside in
+    let facts = release_facts g.G.Source.work s.bank s.table s.terms.limits s.room s.terms.bounds s.terms.parts s.state c.args.task c.args.units c.give.new.gate c.give.ensures.taken c.give.ensures.kept c.args.self.now c.self.view_is in
+    facts.1

@@ -1,20 +1,32 @@
-use Rattle.std.proofs.Common.{rules, arith}
-use Rattle.run.specs.Steps.{served, aged, passed, Placed}
-use Rattle.run.proofs.Held.{steady, held_paced}
-use Rattle.run.proofs.Paces.{later_deadlines}
-use Rattle.run.proofs.Steady.{passed_steady, settled_lasting}
+use Rattle.std.proofs.Common.{ap, length, rules, arith}
+use Rattle.run.specs.Steps.{Placed}
+use Rattle.run.proofs.Calls.{after_tick, tick_facts, tick_passed}
 use Rattle.run.proofs.Run.tick.Goals as goal
 
 pub due-got-requires-clause-hold : goal.due-got-requires-clause-hold
-due-got-requires-clause-hold g c h e = let within = c.args.self.now.known h e in (within.first, omega (arith, within.last, c.count.ensures))
+due-got-requires-clause-hold g c h e =
+    let within = c.self.invariant.known h e in
+    (within.first, omega (arith, within.last, c.task_count.ensures.count, ap (λ r. length r.tasks) c.self.view_is))
 
 pub invariant_of-self : goal.invariant_of-self
 invariant_of-self g c =
-    let s = c.args.self.now in
-    let n = s.table.count in
-    let t = c.tick-2.new.self in
-    let got = c.due-got.result in
-    let placed : Placed got = search rules in
-    let moved = c.tick-2.ensures.ticks in
-    let paced = later_deadlines s.terms.limits n s.table.rows t.count t.rows (omega (arith, s.table.held, s.table.few)) moved s.deadlines in
-    held_paced s t.count t.rows (passed s.state got) moved.count paced c.pass.ensures (passed_steady s.terms.limits n s.state (steady s) got placed) (settled_lasting (aged (served s.state got)))
+    let s = c.self.inside in
+    let placed : Placed c.due-got.result = search rules in
+    after_tick g.G.Source.work s.bank s.table s.terms.limits s.room s.terms.bounds s.terms.parts s.state c.self.invariant c.tick.new.self c.tick-2.new.self c.due-got.result c.tick.ensures.kept c.tick-2.ensures.ticks placed c.pass.new.self c.pass.ensures
+
+pub returns-clause-passed : goal.returns-clause-passed
+returns-clause-passed g c =
+    let s = c.self.inside in
+    tick_passed g.G.Source.work s.bank s.table s.terms.limits s.room s.terms.bounds s.terms.parts s.state g.G.Gate.moves c.tick.new.self c.tick-2.new.self c.in_ok-parts.parts c.task_count.result c.due-got.result c.args.self.now c.self.view_is c.tick.ensures.ticks c.tick-2.ensures.ticks c.in_ok-parts.ensures c.task_count.ensures.count c.due-got.ensures c.pass.new.self c.pass.ensures
+
+pub returns-clause-tasks_ticked : goal.returns-clause-tasks_ticked
+returns-clause-tasks_ticked g c =
+    let s = c.self.inside in
+    let facts = tick_facts g.G.Source.work s.bank s.table s.terms.limits s.room s.terms.bounds s.terms.parts s.state c.tick-2.new.self c.tick-2.ensures.ticked c.tick-2.ensures.kept c.args.self.now c.self.view_is in
+    facts.0
+
+pub returns-clause-tasks_kept : goal.returns-clause-tasks_kept
+returns-clause-tasks_kept g c =
+    let s = c.self.inside in
+    let facts = tick_facts g.G.Source.work s.bank s.table s.terms.limits s.room s.terms.bounds s.terms.parts s.state c.tick-2.new.self c.tick-2.ensures.ticked c.tick-2.ensures.kept c.args.self.now c.self.view_is in
+    facts.1

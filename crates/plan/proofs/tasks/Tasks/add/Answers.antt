@@ -17,7 +17,7 @@ grown c =
     let l = c.args.limit in
     let long : length c.parts.result.now.list ≡ length tasks = ap length c.parts.ensures ∙ length-map tasks (λ t. t.row) in
     let clean : task_fault tasks a l ≡ None = (λ i. first_of ((sym (c.fault.ensures ∙ ap (λ n. adding 16 n a) long)) i) (sym c.limit_fault.ensures i)) ∙ search rules in
-    let count = seen_count s.parts s.limits c.self.invariant tasks c.self.view_is in
+    let count = seen_count s.parts s.limits c.self.invariant.room tasks c.self.view_is in
     let place : c.count-place.result ≡ length s.parts.list = c.count-place.ensures.count ∙ sym count in
     let rows : c.add.new.self.list ≡ s.parts.list ++ fresh a ∷ [] = c.in_ok-add.ensures.added in
     let room : length s.parts.list < length s.limits = omega (arith, had_room tasks a l clean, count, c.self.invariant.room) in
@@ -30,7 +30,7 @@ returns-in_err-add-clause-answer c =
     let a = asked c.args.pace in
     let long : length c.parts.result.now.list ≡ length tasks = ap length c.parts.ensures ∙ length-map tasks (λ t. t.row) in
     let clean : task_fault tasks a c.args.limit ≡ None = (λ i. first_of ((sym (c.fault.ensures ∙ ap (λ n. adding 16 n a) long)) i) (sym c.limit_fault.ensures i)) ∙ search rules in
-    let count = seen_count s.parts s.limits c.self.invariant tasks c.self.view_is in
+    let count = seen_count s.parts s.limits c.self.invariant.room tasks c.self.view_is in
     let none : Some c.in_err-add.field-0.0 ≡ None = c.in_err-add.ensures.answer ∙ ap (λ n. adding 16 n a) count ∙ part_clean tasks a c.args.limit clean in
     let z : ◌≡◌ {A = ℕ} 0 1 = cc in
     absurd (omega arith)
@@ -43,7 +43,7 @@ invariant_of-self-2 c =
     let l = c.args.limit in
     let long : length c.parts.result.now.list ≡ length tasks = ap length c.parts.ensures ∙ length-map tasks (λ t. t.row) in
     let clean : task_fault tasks a l ≡ None = (λ i. first_of ((sym (c.fault.ensures ∙ ap (λ n. adding 16 n a) long)) i) (sym c.limit_fault.ensures i)) ∙ search rules in
-    let fitting = seen_fitting s.parts s.limits c.self.invariant tasks c.self.view_is in
+    let fitting = seen_fitting s.parts s.limits c.self.invariant.room tasks c.self.view_is c.self.invariant in
     let whole : side_by_side c.add.new.self.list (set s.limits c.count-place.result l) ≡ tasks ++ made a l ∷ [] = grown c in
     record {
       room = length-set s.limits c.count-place.result l ∙ c.self.invariant.room;

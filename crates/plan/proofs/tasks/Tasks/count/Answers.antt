@@ -6,6 +6,6 @@ pub returns : goal.returns
 returns c =
     let s = c.self.inside in
     record {
-      count = c.count.ensures ∙ seen_count s.parts s.limits c.self.invariant c.args.self.now c.self.view_is;
-      fitting = seen_fitting s.parts s.limits c.self.invariant c.args.self.now c.self.view_is;
+      count = c.count.ensures ∙ seen_count s.parts s.limits c.self.invariant.room c.args.self.now c.self.view_is;
+      fitting = seen_fitting s.parts s.limits c.self.invariant.room c.args.self.now c.self.view_is c.self.invariant;
     }

@@ -6,6 +6,6 @@ returns c =
     let s = c.self.inside in
     record {
       tasks = c.self.view_is;
-      count = seen_count s.parts s.limits c.self.invariant c.args.self c.self.view_is;
-      fitting = seen_fitting s.parts s.limits c.self.invariant c.args.self c.self.view_is;
+      count = seen_count s.parts s.limits c.self.invariant.room c.args.self c.self.view_is;
+      fitting = seen_fitting s.parts s.limits c.self.invariant.room c.args.self c.self.view_is c.self.invariant;
     }
