@@ -1,7 +1,5 @@
-pub mod Fits
 pub mod Makes
 pub mod Phases
-pub mod Seen
+pub mod Timetables
 pub mod Twice
-pub mod Views
 pub mod Windows

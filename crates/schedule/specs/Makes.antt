@@ -1,9 +1,15 @@
 -- Which schedules can be made.
-use Rattle.std.specs.Prelude.{ℕ, ◌-◌, Bool, cond, ◌&&◌, ◌||◌, List, Some, None, Option, ◌==◌, nat_le, nat_lt}
+use Rattle.std.specs.Prelude.{ℕ, ◌-◌, Bool, false, cond, ◌&&◌, ◌||◌, List, [], ◌∷◌, ◌++◌, length, Some, None, Option, ◌==◌, nat_le, nat_lt}
 use Rattle.refusal.specs.declared.Fault.{Fault}
 use Rattle.refusal.specs.declared.Fault.TheVariants.{TooMany, OutOfRange, Misfit}
-use Rattle.schedule.specs.Phases.{offset_of}
+use Rattle.refusal.specs.declared.Refusal.{Refusal}
+use Rattle.schedule.specs.Phases.{Timetable, offset_of}
 use Rattle.schedule.specs.declared.slot.Slot.{Slot}
+
+-- the refusal for what is wrong, if anything is: about no line and no task
+abbrev pub plain_refusal : Option Fault → Option Refusal
+plain_refusal None = None
+plain_refusal (Some fault) = Some (record { fault = fault; line = 0; task = 0 })
 
 -- from 1 to 1,000,000
 abbrev pub in_range : ℕ → Bool
@@ -11,12 +17,25 @@ in_range x = nat_le 1 x && nat_le x 1000000
 
 -- what is wrong with a cycle
 abbrev pub cycle_fault : ℕ → Option Fault
-cycle_fault c = cond (in_range c) None (Some OutOfRange)
+cycle_fault cycle = cond (in_range cycle) None (Some OutOfRange)
 
--- the offset o lies below the cycle, and above that of the last of n pairs
-abbrev pub follows : ℕ → ℕ → List Slot → ℕ → Bool
-follows c n slots o = nat_lt o c && (n == 0 || nat_lt (offset_of slots (n - 1)) o)
+-- a schedule with no pair, at phase 0
+abbrev pub opened : ℕ → Timetable
+opened cycle = record { cycle = cycle; pairs = []; phase = 0; taken = false }
 
--- what is wrong with one more pair, the fault with the smallest number first
-abbrev pub pair_fault : ℕ → ℕ → List Slot → ℕ → ℕ → Option Fault
-pair_fault c n slots o z = cond (nat_lt n 64) (cond (nat_le o 1000000 && in_range z) (cond (follows c n slots o) None (Some Misfit)) (Some OutOfRange)) (Some TooMany)
+-- an offset lies below the cycle, and above that of the last pair
+abbrev pub follows : ℕ → List Slot → ℕ → Bool
+follows cycle pairs offset = nat_lt offset cycle && (length pairs == 0 || nat_lt (offset_of pairs (length pairs - 1)) offset)
+
+-- what is wrong with one more pair, of that offset and a length of so many units, the fault with the smallest number first
+abbrev pub pair_fault : Timetable → ℕ → ℕ → Option Fault
+pair_fault t offset units =
+    cond (nat_lt (length t.pairs) 64)
+    (cond (nat_le offset 1000000 && in_range units)
+    (cond (follows t.cycle t.pairs offset) None (Some Misfit))
+    (Some OutOfRange))
+    (Some TooMany)
+
+-- one pair more behind the others
+abbrev pub with_pair : Timetable → ℕ → ℕ → Timetable
+with_pair t offset units = record t { pairs = t.pairs ++ (record { offset = offset; length = units }) ∷ [] }

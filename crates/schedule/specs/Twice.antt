@@ -3,18 +3,22 @@ use Rattle.std.specs.Prelude.{ℕ, ◌+◌, ◌-◌, ◌<◌, ◌≤◌, cond, L
 use Rattle.schedule.specs.Phases.{offset_of, length_of, lengths_met}
 use Rattle.schedule.specs.declared.slot.Slot.{Slot}
 
-abbrev pub offset_twice : List Slot → ℕ → ℕ → ℕ
-offset_twice slots c j = cond (nat_lt j (length slots)) (offset_of slots j) (offset_of slots (j - length slots) + c)
+abbrev pub offset_twice : ℕ → List Slot → ℕ → ℕ
+offset_twice cycle pairs j = cond (nat_lt j (length pairs)) (offset_of pairs j) (offset_of pairs (j - length pairs) + cycle)
 
-abbrev pub units_twice : List Slot → ℕ → ℕ
-units_twice slots j = cond (nat_lt j (length slots)) (length_of slots j) (length_of slots (j - length slots))
+abbrev pub length_twice : List Slot → ℕ → ℕ
+length_twice pairs j = cond (nat_lt j (length pairs)) (length_of pairs j) (length_of pairs (j - length pairs))
 
--- the lengths met in l ticks from pair i on
-abbrev pub met_from : ℕ → ℕ → List Slot → ℕ → ℕ → ℕ
-met_from c n slots l i = lengths_met c n slots l (offset_of slots i)
+-- the lengths met in so many ticks from pair i on
+abbrev pub met_from : ℕ → List Slot → ℕ → ℕ → ℕ
+met_from cycle pairs ticks i = lengths_met cycle pairs ticks (offset_of pairs i)
 
--- where a window ends: before place e all lies before `until`, and at e, if that is not the limit, nothing does
-pub record Ends (c : ℕ) (slots : List Slot) (until limit e : ℕ) : Type 0 where
+-- all pairs before place e lie before `until`
+abbrev pub LieBefore : ℕ → List Slot → ℕ → ℕ → Type 0
+LieBefore cycle pairs e until = (j : ℕ) → j < e → offset_twice cycle pairs j < until
+
+-- where a window ends: all before place e lies before `until`, and what is at e, if that is not the limit, does not
+pub record Ends (cycle : ℕ) (pairs : List Slot) (until limit e : ℕ) : Type 0 where
   pub within : e ≤ limit
-  pub before : (j : ℕ) → j < e → offset_twice slots c j < until
-  pub after : e < limit → until ≤ offset_twice slots c e
+  pub before : LieBefore cycle pairs e until
+  pub after : e < limit → until ≤ offset_twice cycle pairs e

@@ -1,8 +1,8 @@
 // Pairs of offset and length, and the largest sum of lengths in a window shorter than the cycle.
-ghost use Rattle.std.specs.Prelude.{◌≡◌, ℕ, ◌+◌, ◌-◌, ◌<◌, ◌≤◌, length};
-ghost use Rattle.cycles.specs.Round.{sum, top};
-ghost use Rattle.schedule.specs.Phases.{offset_of, length_of, length_at, lengths_met};
-ghost use Rattle.schedule.specs.Twice.{offset_twice, units_twice, met_from, Ends};
+ghost use Rattle.std.specs.Prelude.{◌≡◌, ◌+◌, ◌<◌, ◌≤◌, length};
+ghost use Rattle.cycles.specs.Round.{sum};
+ghost use Rattle.schedule.specs.Phases.{offset_of, length_of, length_at, demand_of, FitPairs};
+ghost use Rattle.schedule.specs.Twice.{offset_twice, length_twice, met_from, LieBefore, Ends};
 
 // A pair: from `offset` on in each cycle, work of `length` units.
 #[derive(Clone, Copy, Default)]
@@ -24,20 +24,15 @@ struct Reach {
 pub(crate) struct Round<'a> {
     pub(crate) slots: &'a [Slot],
     pub(crate) cycle: u32,
-    ghost few: { length slots.now ≤ 64 },
-    ghost short: { cycle ≤ 1000000 },
-    ghost rising: { (i j : ℕ) → i < j → j < length slots.now → offset_of slots.now i < offset_of slots.now j },
-    ghost below: { (i : ℕ) → i < length slots.now → offset_of slots.now i < cycle },
-    ghost offsets: { (i : ℕ) → offset_of slots.now i ≤ 1000000 },
-    ghost lengths: { (i : ℕ) → length_of slots.now i ≤ 1000000 },
+    ghost fit: { FitPairs cycle slots.now },
 }
 
 impl<'a> Round<'a> {
     // The pair at a place of two cycles in a row.
     fn slot_at(&self, place: usize) -> Slot
         requires { place < length self.now.slots.now + length self.now.slots.now }
-        ensures offset { result.offset ≡ offset_twice self.now.slots.now self.now.cycle place }
-        ensures length { result.length ≡ units_twice self.now.slots.now place }
+        ensures offset { result.offset ≡ offset_twice self.now.cycle self.now.slots.now place }
+        ensures length { result.length ≡ length_twice self.now.slots.now place }
     {
         if place < self.slots.len() {
             self.slots[place]
@@ -55,9 +50,9 @@ impl<'a> Round<'a> {
     fn moved_on(&self, mut reach: Reach, until: u32, limit: usize) -> Reach
         requires limit { limit ≤ length self.now.slots.now + length self.now.slots.now }
         requires end { reach.end ≤ limit }
-        requires sum { reach.sum ≡ sum (units_twice self.now.slots.now) reach.end }
-        requires before { (j : ℕ) → j < reach.end → offset_twice self.now.slots.now self.now.cycle j < until }
-        ensures sum { result.sum ≡ sum (units_twice self.now.slots.now) result.end }
+        requires sum { reach.sum ≡ sum (length_twice self.now.slots.now) reach.end }
+        requires before { LieBefore self.now.cycle self.now.slots.now reach.end until }
+        ensures sum { result.sum ≡ sum (length_twice self.now.slots.now) result.end }
         ensures ends { Ends self.now.cycle self.now.slots.now until limit result.end }
     {
         // the end moves on from one call to the next, so it is a place and no iterator
@@ -80,12 +75,12 @@ impl<'a> Round<'a> {
         requires pair { slot.offset ≡ offset_of self.now.slots.now start }
         requires ticks { ticks < self.now.cycle }
         requires end { reach.end ≤ length self.now.slots.now + start }
-        requires sum { reach.sum ≡ sum (units_twice self.now.slots.now) reach.end }
-        requires before { (j : ℕ) → j < reach.end → offset_twice self.now.slots.now self.now.cycle j < offset_of self.now.slots.now start + ticks }
-        ensures sum { result.sum ≡ sum (units_twice self.now.slots.now) result.end }
+        requires sum { reach.sum ≡ sum (length_twice self.now.slots.now) reach.end }
+        requires before { LieBefore self.now.cycle self.now.slots.now reach.end (offset_of self.now.slots.now start + ticks) }
+        ensures sum { result.sum ≡ sum (length_twice self.now.slots.now) result.end }
         ensures end { result.end ≤ length self.now.slots.now + start }
-        ensures before { (j : ℕ) → j < result.end → offset_twice self.now.slots.now self.now.cycle j < offset_of self.now.slots.now start + ticks }
-        ensures met { sum (length_of self.now.slots.now) start + met_from self.now.cycle (length self.now.slots.now) self.now.slots.now ticks start ≡ sum (units_twice self.now.slots.now) result.end }
+        ensures before { LieBefore self.now.cycle self.now.slots.now result.end (offset_of self.now.slots.now start + ticks) }
+        ensures met { sum (length_of self.now.slots.now) start + met_from self.now.cycle self.now.slots.now ticks start ≡ sum (length_twice self.now.slots.now) result.end }
     {
         self.moved_on(reach, slot.offset + ticks, self.slots.len() + start)
     }
@@ -95,7 +90,7 @@ impl<'a> Round<'a> {
     #[tactic(auto, using(crate::proofs::Slots::sum_small, crate::proofs::Slots::pairs_are_worst, cycles::proofs::Rounds::larger_next, crate::proofs::Slots::before_next))]
     pub(crate) fn largest_met(&self, ticks: u32) -> u32
         requires { ticks < self.now.cycle }
-        ensures { result ≡ top (lengths_met self.now.cycle (length self.now.slots.now) self.now.slots.now ticks) self.now.cycle }
+        ensures { result ≡ demand_of self.now.cycle self.now.slots.now ticks }
     {
         let mut best = 0;
         let mut passed = 0;
@@ -112,7 +107,7 @@ impl<'a> Round<'a> {
     // project wants it, a loop over the pairs sums.
     #[tactic(auto, using(crate::proofs::Slots::found_small))]
     pub(crate) fn length_at(&self, phase: u32) -> u32
-        ensures { result ≡ length_at (length self.now.slots.now) self.now.slots.now phase }
+        ensures { result ≡ length_at self.now.slots.now phase }
     {
         let mut found = 0;
         for slot in self.slots {
