@@ -2,14 +2,8 @@
 use Rattle.std.specs.Prelude.{ℕ, ◌-◌, Bool, false, cond, ◌&&◌, ◌||◌, List, [], ◌∷◌, ◌++◌, length, Some, None, Option, ◌==◌, nat_le, nat_lt}
 use Rattle.refusal.specs.declared.Fault.{Fault}
 use Rattle.refusal.specs.declared.Fault.TheVariants.{TooMany, OutOfRange, Misfit}
-use Rattle.refusal.specs.declared.Refusal.{Refusal}
 use Rattle.schedule.specs.Phases.{Timetable, offset_of}
 use Rattle.schedule.specs.declared.slot.Slot.{Slot}
-
--- the refusal for what is wrong, if anything is: about no line and no task
-abbrev pub plain_refusal : Option Fault → Option Refusal
-plain_refusal None = None
-plain_refusal (Some fault) = Some (record { fault = fault; line = 0; task = 0 })
 
 -- from 1 to 1,000,000
 abbrev pub in_range : ℕ → Bool

@@ -5,7 +5,8 @@ ghost use Rattle.cycles.specs.Round.{next};
 ghost use Rattle.loads.specs.Share.{load_of};
 ghost use Rattle.source.specs.Rows.{work_one, allowed_one, GivesOne};
 ghost use Rattle.source.proofs.Gates.{one_sound, one_taken, one_ticked};
-ghost use Rattle.schedule.specs.Makes.{plain_refusal, cycle_fault, opened, follows, pair_fault, with_pair};
+ghost use Rattle.refusal.specs.Refusals.{refusal_of};
+ghost use Rattle.schedule.specs.Makes.{cycle_fault, opened, follows, pair_fault, with_pair};
 ghost use Rattle.schedule.specs.Phases.{total_length, demand, allowance, later, timetables, Fit, FitTimetable};
 ghost use Rattle.schedule.specs.Timetables.{timetables_owe};
 
@@ -50,7 +51,7 @@ impl Model for Schedule {
 impl Schedule {
     // A schedule with no pair, at phase 0, or a refusal: a cycle of 0 or above 1,000,000.
     pub fn new(cycle: u32) -> Result<Schedule, Refusal>
-        ensures answer { result_err result ≡ plain_refusal (cycle_fault cycle) }
+        ensures answer { result_err result ≡ refusal_of (cycle_fault cycle) 0 }
         ensures made { IfOk result (λ schedule. schedule.timetable ≡ opened cycle) }
     {
         if cycle < 1 || cycle > LONGEST {
@@ -89,7 +90,7 @@ impl Schedule {
     // that is not below the cycle or not above that of the last pair.
     #[tactic(auto, using(crate::proofs::Slots::grown_kept))]
     pub fn add(&mut self, offset: u32, length: u32) -> Result<(), Refusal>
-        ensures answer { result_err result ≡ plain_refusal (pair_fault self.old.timetable offset length) }
+        ensures answer { result_err result ≡ refusal_of (pair_fault self.old.timetable offset length) 0 }
         ensures added { OnOk result (self.new.timetable ≡ with_pair self.old.timetable offset length) }
         ensures refused { OnErr result (self.new ≡ self.old) }
     {
