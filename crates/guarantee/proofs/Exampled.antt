@@ -1,24 +1,22 @@
 -- The example holds.
 use Rattle.std.proofs.Common.{◌≡◌, ℕ, zero, suc, ◌+◌, ◌<◌, ◌≤◌, [], ◌∷◌, map, get_or, replicate, refl, arith, lit≤}
 use Rattle.std.proofs.lemmas.Bool.Decides.{nat_tests}
+use Rattle.std.proofs.lemmas.List.Elements.{All-cons, All-nil}
 use Rattle.cycles.proofs.Tables.{all_same}
 use Rattle.source.specs.Facts.{Sound, Taken, Driven}
-use Rattle.paced.specs.Pace.{Fit, given, later}
-use Rattle.paced.specs.Tables.{row_at}
-use Rattle.plan.specs.Judged.{Bounded, Judged}
-use Rattle.plan.specs.Limits.{limit_at}
+use Rattle.paced.specs.Pace.{Fit}
+use Rattle.plan.specs.Judged.{Bounded}
 use Rattle.plan.specs.Needs.{needed}
-use Rattle.plan.specs.declared.verdict.Verdict.TheVariants.{Accepted}
-use Rattle.calls.specs.Events.{log_of}
-use Rattle.run.specs.States.{at_start}
-use Rattle.run.specs.Steps.{grown, released, granted, due, passed}
-use Rattle.guarantee.specs.Playing.{Now, Played}
-use Rattle.guarantee.specs.Promise.{Acceptable, Modelled, begun}
-use Rattle.guarantee.specs.Views.{plan_of, view_of}
+use Rattle.plan.specs.Plans.{ByJudge}
+use Rattle.plan.specs.Tasks.{Task, AtRest, task_at, Fitting}
+use Rattle.run.specs.Runs.{Now, due_in, later_task, run_granted, run_released, started}
+use Rattle.run.specs.Steps.{grown, passed}
+use Rattle.guarantee.specs.Playing.{Played}
+use Rattle.guarantee.specs.Promise.{Acceptable}
 use Rattle.guarantee.proofs.Promising.{modelled}
-use Rattle.guarantee.specs.Example.{store_allowed, store_demand, store_takes, store_ticks, only_row, only_limit, some_calls, their_answers, run_fixed, Example}
+use Rattle.guarantee.specs.Example.{store_allowed, store_work, store_moves, only_task, judged_plan, some_calls, their_answers, Example}
 
-sound : (s : ℕ) → Sound 1 store_demand (store_allowed s)
+sound : (s : ℕ) → Sound (store_work s) (store_allowed s)
 sound s =
     record {
       few = lit≤ tt;
@@ -29,66 +27,59 @@ sound s =
       within = λ k l. grind (arith, nat_tests);
     }
 
-taken : (s t k u : ℕ) → store_takes s k u t → Taken (store_allowed s) k u (store_allowed t)
+taken : (s t k u : ℕ) → store_moves.takes s k u t → Taken (store_allowed s) k u (store_allowed t)
 taken s t k u h =
     record {
       within = λ l some. (let e : k ≡ 1 = h.0 in grind (arith, nat_tests));
       others = λ j l ne. (let e : k ≡ 1 = h.0 in grind (arith, nat_tests));
     }
 
-driven : Driven (λ (s : ℕ). 1) (λ (s : ℕ). store_demand) store_allowed store_takes store_ticks
-driven =
-    record {
-      taken = λ s t k u h. (record { count = refl; demand = refl }, taken s t k u h);
-      ticked = λ s t h. (record { count = refl; demand = refl }, record { shorter = λ k l. grind (arith, nat_tests) });
-    }
+driven : Driven store_work store_allowed store_moves
+driven = record { taken = λ s t k u h. (refl, taken s t k u h); ticked = λ s t h. (refl, record { shorter = λ k l. grind (arith, nat_tests) }) }
 
-acceptable : Acceptable store_demand 1 only_limit 1 only_row
-acceptable = (lit≤ tt, lit≤ tt, λ i h. windows i h)
+acceptable : Acceptable store_work judged_plan.plan
+acceptable = record { some = lit≤ tt; few = lit≤ tt; windows = windows }
   where
-    windows : (i : ℕ) → i < 1 → (w : ℕ) × (1 ≤ w) × (needed store_demand 1 only_limit 1 only_row i w ≤ w) × (w ≤ (limit_at only_limit i).deadline)
+    windows : (i : ℕ) → i < 1 → (w : ℕ) × (1 ≤ w) × (needed (store_work 3) (only_task ∷ []) i w ≤ w) × (w ≤ (task_at (only_task ∷ []) i).limit.deadline)
     windows zero h = (5, lit≤ tt, lit≤ tt, lit≤ tt)
     windows (suc i) h = absurd (omega arith)
 
 -- the states of the run, one after another
 abbrev first : Now ℕ
-first = begun 3 only_row
+first = started store_work judged_plan
 
 abbrev offered : Now ℕ
-offered = record { bank = 1; rows = only_row; state = grown at_start 1 2 }
-
-abbrev released_one : Now ℕ
-released_one = record { bank = 1; rows = given (row_at only_row 0) ∷ []; state = released (grown at_start 1 2) 1 2 }
+offered = record first { bank = 1; state = grown first.state 1 2 }
 
 abbrev holding : Now ℕ
-holding = record { bank = 1; rows = released_one.rows; state = granted released_one.state 1 1 }
+holding = run_granted (run_released offered 1 2) 1 1
 
 abbrev ticked : Now ℕ → Now ℕ
-ticked s = record { bank = s.bank; rows = map later s.rows; state = passed s.state (due 1 1 s.state) }
+ticked r = record r { tasks = map later_task r.tasks; state = passed r.state (due_in r) }
 
-played : Played store_allowed store_takes store_ticks run_fixed some_calls their_answers first (ticked (ticked (ticked (ticked holding))))
+played : Played store_allowed store_moves some_calls their_answers first (ticked (ticked (ticked (ticked holding))))
 played = (
   offered,
-  (refl, (refl, lit≤ tt, lit≤ tt, refl), refl, refl),
+  (refl, record { bank = (refl, lit≤ tt, lit≤ tt, refl); rest = refl }),
   (
-    released_one,
-    (refl, refl, record { offered = refl; count = refl; moved = refl }, refl),
+    run_released offered 1 2,
+    (refl, refl),
     (
       holding,
-      (refl, refl, refl, refl),
+      (refl, refl),
       (
         holding,
         (refl, refl),
         (
           ticked holding,
-          (refl, refl, record { count = refl; lowered = refl }, refl),
+          (refl, record { bank = refl; rest = refl }),
           (
             ticked (ticked holding),
-            (refl, refl, record { count = refl; lowered = refl }, refl),
+            (refl, record { bank = refl; rest = refl }),
             (
               ticked (ticked (ticked holding)),
-              (refl, refl, record { count = refl; lowered = refl }, refl),
-              (ticked (ticked (ticked (ticked holding))), (refl, refl, record { count = refl; lowered = refl }, refl), refl),
+              (refl, record { bank = refl; rest = refl }),
+              (ticked (ticked (ticked (ticked holding))), (refl, record { bank = refl; rest = refl }), refl),
             ),
           ),
         ),
@@ -97,41 +88,51 @@ played = (
   ),
 )
 
-only_fit : (i : ℕ) → i < 1 → Fit (row_at only_row i)
-only_fit zero h = record { paces = (lit≤ tt, lit≤ tt, lit≤ tt); places = (refl, lit≤ tt, lit≤ tt, lit≤ tt); costs = small }
+only_fit : Fit only_task.row
+only_fit = record { paces = (lit≤ tt, lit≤ tt, lit≤ tt); places = (refl, lit≤ tt, lit≤ tt, lit≤ tt); costs = small }
   where
     small : (j : ℕ) → get_or (2 ∷ replicate 7 0) j 0 ≤ 1000000
     small zero = lit≤ tt
     small (suc j) = omega (arith, all_same {A = ℕ} 7 j 0)
-only_fit (suc i) h = absurd (omega arith)
 
-judged : Judged store_demand 1 only_limit 1 only_row (Accepted 1) (5 ∷ [])
-judged = (refl, lit≤ tt, lit≤ tt, λ i h. bounded i h)
+fitting : Fitting (only_task ∷ [])
+fitting =
+    record {
+      few = lit≤ tt;
+      rows = All-cons (λ (t : Task). Fit t.row) only_task [] only_fit (All-nil (λ (t : Task). Fit t.row));
+      rest = All-cons (λ (t : Task). AtRest t.row) only_task [] (record { level = refl; place = refl }) (All-nil (λ (t : Task). AtRest t.row));
+      deadlines = All-cons (λ (t : Task). t.limit.deadline + t.row.jitter ≤ t.row.period) only_task [] (lit≤ tt) (All-nil (λ (t : Task). t.limit.deadline + t.row.jitter ≤ t.row.period));
+      blockings = All-cons (λ (t : Task). t.limit.blocking ≤ 1000000) only_task [] (lit≤ tt) (All-nil (λ (t : Task). t.limit.blocking ≤ 1000000));
+      holds = λ i j a b. absurd (omega arith);
+    }
+
+bounded : (i : ℕ) → i < 1 → Bounded (store_work 3) (only_task ∷ []) i (get_or judged_plan.bounds i 0)
+bounded zero h = (record { some = lit≤ tt; holds = lit≤ tt; smaller = low }, lit≤ tt)
   where
-    low : (l : ℕ) → 1 ≤ l → l < 5 → l < needed store_demand 1 only_limit 1 only_row 0 l
+    low : (l : ℕ) → 1 ≤ l → l < 5 → l < needed (store_work 3) (only_task ∷ []) 0 l
     low zero a b = absurd (omega arith)
     low (suc zero) a b = lit≤ tt
     low (suc (suc zero)) a b = lit≤ tt
     low (suc (suc (suc zero))) a b = lit≤ tt
     low (suc (suc (suc (suc zero)))) a b = lit≤ tt
     low (suc (suc (suc (suc (suc l))))) a b = absurd (omega arith)
+bounded (suc i) h = absurd (omega arith)
 
-    bounded : (i : ℕ) → i < 1 → Bounded store_demand 1 only_limit 1 only_row i (get_or (5 ∷ []) i 0)
-    bounded zero h = (record { some = lit≤ tt; holds = lit≤ tt; smaller = low }, lit≤ tt)
-    bounded (suc i) h = absurd (omega arith)
+by_judge : ByJudge store_work judged_plan
+by_judge =
+    record {
+      fitting = fitting;
+      judged = (refl, lit≤ tt, lit≤ tt, bounded);
+      filled = record { windows = bounded; rest = rest };
+      places = refl;
+    }
+  where
+    rest : (i : ℕ) → 1 ≤ i → get_or judged_plan.bounds i 0 ≡ 0
+    rest zero h = absurd (omega arith)
+    rest (suc i) h = all_same 15 i 0
 
 abbrev end : Now ℕ
 end = ticked (ticked (ticked (ticked holding)))
 
-modelled_end : Modelled (plan_of 1 store_demand 1 only_row only_limit (5 ∷ [])) (view_of (store_allowed 3) 1 only_row at_start) (view_of (store_allowed end.bank) 1 end.rows end.state) (log_of some_calls their_answers)
-modelled_end = modelled (λ s. 1) (λ s. store_demand) store_allowed store_takes store_ticks sound driven 3 1 only_row only_limit (5 ∷ []) (Accepted 1) (lit≤ tt) (lit≤ tt) only_fit deadlines holds judged refl some_calls their_answers end played
-  where
-    deadlines : (i : ℕ) → i < 1 → (limit_at only_limit i).deadline + (row_at only_row i).jitter ≤ (row_at only_row i).period
-    deadlines zero h = lit≤ tt
-    deadlines (suc i) h = absurd (omega arith)
-
-    holds : (i j : ℕ) → i < j → j < 1 → (limit_at only_limit j).hold ≤ (limit_at only_limit i).blocking
-    holds i j a b = absurd (omega arith)
-
 pub example : Example
-example = record { sound = sound; driven = driven; acceptable = acceptable; run = end; played = played; modelled = modelled_end }
+example = record { sound = sound; driven = driven; acceptable = acceptable; by_judge = by_judge; run = end; played = played; modelled = modelled store_work store_allowed store_moves sound driven judged_plan by_judge acceptable some_calls their_answers end played }

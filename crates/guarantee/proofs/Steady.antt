@@ -1,18 +1,22 @@
--- What every state of a run of an accepted plan keeps to.
-use Rattle.std.proofs.Common.{◌≡◌, ℕ, zero, suc, ◌+◌, ◌-◌, ◌/◌, ◌<◌, ◌≤◌, Bool, true, false, List, map, length, set, nat_le, sym, refl, ap, ◌∙◌, subst, inl, inr, arith, length-set}
+-- What the tasks of every run of an accepted plan keep to.
+use Rattle.std.proofs.Common.{◌≡◌, ℕ, zero, suc, ◌+◌, ◌-◌, ◌/◌, ◌<◌, ◌≤◌, All, List, [], ◌∷◌, map, length, set, nat_le, sym, refl, ap, ◌∙◌, arith}
 use Rattle.std.proofs.Math.Nat.{div-eq_of_lt}
 use Rattle.std.proofs.Math.ListN.{get_or-map}
-use Rattle.std.proofs.lemmas.List.{get_or-set_same, get_or-set_other, length-map}
-use Rattle.std.proofs.lemmas.Bool.{cond_both, cond-true, cond-false, leb-true, cases_eq}
-use Rattle.source.specs.Facts.{is_part, Taken, Ticked}
-use Rattle.source.proofs.Parts.{by_part, offerable_parts, part_bounds}
+use Rattle.std.proofs.lemmas.List.{length-map}
+use Rattle.std.proofs.lemmas.Bool.{cond_both}
+use Rattle.source.specs.Facts.{Taken, Ticked}
+use Rattle.source.specs.Rows.{Gives, Passes}
+use Rattle.source.proofs.Gates.{list_taken, list_ticked, list_given_fit, list_later_fit}
+use Rattle.source.proofs.Parts.{by_part, part_from, offerable_from}
 use Rattle.cycles.proofs.Rounds.{top_at}
 use Rattle.paced.specs.Runs.{at}
-use Rattle.paced.specs.Pace.{run, allowance, arrivals, largest_cost, given, later, Fit}
-use Rattle.paced.specs.Rows.{given_fit, later_fit, allowance_one}
-use Rattle.paced.specs.Tables.{row_at, demands_of, allowances_of, Gives, Passes}
-use Rattle.paced.specs.Together.{list_taken, list_ticked, set_every, later_every}
+use Rattle.paced.specs.Pace.{run, allowance, arrivals, largest_cost, given, later, blank, Fit, paced}
+use Rattle.paced.specs.Rows.{paced_owes}
+use Rattle.paced.specs.Tables.{row_at, work_in, allowances_in}
 use Rattle.paced.specs.declared.row.Row.{Row}
+use Rattle.plan.specs.Tasks.{Task, task_at, rows_of, unlimited}
+use Rattle.run.specs.Runs.{given_task, later_task, rested}
+use Rattle.run.proofs.Held.{rested_given, rested_later}
 
 -- over at most T - J ticks a row brings at most one cost
 allowance_few : (r : Row) (l : ℕ) → Fit r → l + r.jitter ≤ r.period → allowance r l ≤ largest_cost r
@@ -24,84 +28,58 @@ allowance_few r (suc l) fit h =
     let least : at r.costs r.place ≤ largest_cost r = top_at (at r.costs) r.count r.place fit.places.2 in
     cond_both (nat_le r.level (r.jitter + l)) (run r r.place (arrivals r r.level (suc l))) 0 (λ x. x ≤ largest_cost r) (λ _. omega arith) (λ _. omega arith)
 
-pub allowances_few : (n : ℕ) (rows : ℕ → Row) (i l : ℕ) → Fit (rows (i - 1)) → l + (rows (i - 1)).jitter ≤ (rows (i - 1)).period → allowances_of n rows i l ≤ largest_cost (rows (i - 1))
-allowances_few n rows i l fit h = by_part (λ x y. x ≤ largest_cost (rows (i - 1))) n i (allowance (rows (i - 1)) l) 0 (λ _. allowance_few (rows (i - 1)) l fit h) (omega arith)
+allowances_few : (rows : List Row) (i l : ℕ) → i - 1 < length rows → All Fit rows → l + (row_at rows (i - 1)).jitter ≤ (row_at rows (i - 1)).period → allowances_in rows i l ≤ largest_cost (row_at rows (i - 1))
+allowances_few rows i l place fit h = by_part (λ x y. x ≤ largest_cost (row_at rows (i - 1))) (length rows) i (allowance (row_at rows (i - 1)) l) 0 (λ _. allowance_few (row_at rows (i - 1)) l (fit (i - 1) blank place) h) (omega arith)
 
--- a row with the same numbers, whatever its level and place
-pub record Alike (r r' : Row) : Type 0 where
-  pub period : r'.period ≡ r.period
-  pub jitter : r'.jitter ≡ r.jitter
-  pub cost : largest_cost r' ≡ largest_cost r
+-- the paced parts of tasks of which one, or each, has moved on
+rows_given : (tasks : List Task) (k : ℕ) → rows_of (set tasks k (given_task (task_at tasks k))) ≡ set (rows_of tasks) k (given (row_at (rows_of tasks) k))
+rows_given [] k = refl
+rows_given (t ∷ tasks) zero = refl
+rows_given (t ∷ tasks) (suc k) = ap (λ xs. t.row ∷ xs) (rows_given tasks k)
 
-alike_same : (r : Row) → Alike r r
-alike_same r = record { period = refl; jitter = refl; cost = refl }
+rows_later : (tasks : List Task) → rows_of (map later_task tasks) ≡ map later (rows_of tasks)
+rows_later [] = refl
+rows_later (t ∷ tasks) = ap (λ xs. later t.row ∷ xs) (rows_later tasks)
 
--- m rows that are fit, with the numbers and the demand of those at the start
-pub record Steady (m : ℕ) (start rows : List Row) : Type 0 where
-  pub room : m ≤ length rows
-  pub fit : (i : ℕ) → i < m → Fit (row_at rows i)
-  pub alike : (i : ℕ) → i < m → Alike (row_at start i) (row_at rows i)
-  pub demand : demands_of m (row_at rows) ≡ demands_of m (row_at start)
+-- tasks that are fit, and but for levels and places those of the start
+pub record Steady (start tasks : List Task) : Type 0 where
+  pub fit : All Fit (rows_of tasks)
+  pub alike : map rested tasks ≡ map rested start
+  pub work : work_in (rows_of tasks) ≡ work_in (rows_of start)
 
-level_low : (r : Row) → Fit r → 1 ≤ allowance r 1 → r.level ≤ r.jitter
-level_low r fit some = go (nat_le r.level r.jitter) refl
-  where
-    go : (b : Bool) → nat_le r.level r.jitter ≡ b → r.level ≤ r.jitter
-    go true e = leb-true r.level r.jitter e
-    go false e = absurd (omega (arith, some, allowance_one r fit, cond-false (nat_le r.level r.jitter) (at r.costs r.place) 0 e))
+module _ (start tasks : List Task) (steady : Steady start tasks) where
+  pub alike_at : (i : ℕ) → rested (task_at tasks i) ≡ rested (task_at start i)
+  alike_at i = sym (get_or-map rested tasks i (record { row = blank; limit = unlimited })) ∙ ap (λ xs. task_at xs i) steady.alike ∙ get_or-map rested start i (record { row = blank; limit = unlimited })
 
-module _ (m : ℕ) (start rows : List Row) (steady : Steady m start rows) where
-  alike_set : (k : ℕ) → k < m → (i : ℕ) → i < m → Alike (row_at start i) (row_at (set rows k (given (row_at rows k))) i)
-  alike_set k within i h = elim (cases_eq i k) [
-    | inl e ↦
-        let old = steady.alike i h in
-        let new : row_at (set rows k (given (row_at rows k))) i ≡ given (row_at rows i) = ap (λ j. row_at (set rows k (given (row_at rows k))) j) e ∙ get_or-set_same rows k (given (row_at rows k)) _ (omega (arith, steady.room)) ∙ ap (λ j. given (row_at rows j)) (sym e) in
-        let made : Alike (row_at start i) (given (row_at rows i)) = record { period = old.period; jitter = old.jitter; cost = old.cost } in
-        subst (Alike (row_at start i)) (sym new) made
-    | inr ne ↦ subst (Alike (row_at start i)) (sym (get_or-set_other rows k i (given (row_at rows k)) _ ne)) (steady.alike i h)
-  ]
+  row_is : (i : ℕ) → row_at (rows_of tasks) i ≡ (task_at tasks i).row
+  row_is i = get_or-map (λ t. t.row) tasks i (record { row = blank; limit = unlimited })
 
-  -- an offer that is taken
-  pub steady_given : (k u : ℕ) (rows' : List Row) → Gives m rows k u m rows' → Steady m start rows' × Taken (allowances_of m (row_at rows)) k u (allowances_of m (row_at rows'))
-  steady_given k u rows' gives =
-      let facts = list_taken m rows k u m rows' steady.room steady.fit gives in
-      let p = offerable_parts m (allowances_of m (row_at rows)) k u gives.offered in
-      let b = part_bounds m k p.0 in
-      let place : k - 1 < m = omega arith in
-      let r = row_at rows (k - 1) in
-      let fit = steady.fit (k - 1) place in
-      let here : allowances_of m (row_at rows) k 1 ≡ allowance r 1 = cond-true (is_part m k) (allowance r 1) 0 p.0 in
-      let low : r.level ≤ r.jitter = level_low r fit (omega (arith, here, p.1, p.2)) in
-      let moved = gives.moved in (
-        record {
-          room = omega (arith, ap length moved, length-set rows (k - 1) (given r), steady.room);
-          fit = subst (λ xs. (i : ℕ) → i < m → Fit (row_at xs i)) (sym moved) (set_every Fit rows (k - 1) (given r) m (omega (arith, steady.room)) (λ i h ne. steady.fit i h) (given_fit r fit low));
-          alike = subst (λ xs. (i : ℕ) → i < m → Alike (row_at start i) (row_at xs i)) (sym moved) (alike_set (k - 1) place);
-          demand = facts.0.demand ∙ steady.demand;
-        },
-        facts.1,
-      )
+  -- within its deadline a task brings at most one cost
+  pub one_cost : (i l : ℕ) → i - 1 < length tasks → l + (task_at start (i - 1)).row.jitter ≤ (task_at start (i - 1)).row.period → allowances_in (rows_of tasks) i l ≤ largest_cost (task_at start (i - 1)).row
+  one_cost i l place h =
+      let alike = alike_at (i - 1) in
+      let row = row_is (i - 1) in
+      let most = allowances_few (rows_of tasks) i l (omega (arith, place, length-map tasks (λ t. t.row))) steady.fit (omega (arith, h, ap (λ r. r.jitter) row, ap (λ r. r.period) row, ap (λ t. t.row.jitter) alike, ap (λ t. t.row.period) alike)) in
+      omega (arith, most, ap largest_cost row, ap (λ t. largest_cost t.row) alike)
+
+  -- a release that is taken
+  pub steady_given : (i u : ℕ) → 1 ≤ i → i ≤ length tasks → 1 ≤ u → u ≤ allowances_in (rows_of tasks) i 1 → Steady start (set tasks (i - 1) (given_task (task_at tasks (i - 1)))) × Taken (allowances_in (rows_of tasks)) i u (allowances_in (rows_of (set tasks (i - 1) (given_task (task_at tasks (i - 1))))))
+  steady_given i u first last some allowed =
+      let rows = rows_of tasks in
+      let tasks' = set tasks (i - 1) (given_task (task_at tasks (i - 1))) in
+      let many : i ≤ length rows = omega (arith, last, length-map tasks (λ t. t.row)) in
+      let gives : Gives paced rows i u (rows_of tasks') = record { offered = offerable_from (length rows) (allowances_in rows) i u (part_from (length rows) i first many) some allowed; moved = rows_given tasks (i - 1) } in
+      let facts = list_taken paced paced_owes rows i u (rows_of tasks') steady.fit gives in
+      (record { fit = list_given_fit paced paced_owes rows i u (rows_of tasks') steady.fit gives; alike = rested_given tasks (i - 1) ∙ steady.alike; work = facts.0 ∙ steady.work }, facts.1)
 
   -- a tick
-  pub steady_later : (rows' : List Row) → Passes m rows m rows' → Steady m start rows' × Ticked (allowances_of m (row_at rows)) (allowances_of m (row_at rows'))
-  steady_later rows' passes =
-      let facts = list_ticked m rows m rows' steady.room steady.fit passes in
-      let moved = passes.lowered in (
-        record {
-          room = omega (arith, ap length moved, length-map rows later, steady.room);
-          fit = subst (λ xs. (i : ℕ) → i < m → Fit (row_at xs i)) (sym moved) (later_every Fit rows m steady.room (λ i h. later_fit (row_at rows i) (steady.fit i h)));
-          alike = subst (λ xs. (i : ℕ) → i < m → Alike (row_at start i) (row_at xs i)) (sym moved) (λ i h. later_alike i h);
-          demand = facts.0.demand ∙ steady.demand;
-        },
-        facts.1,
-      )
-    where
-      later_alike : (i : ℕ) → i < m → Alike (row_at start i) (row_at (map later rows) i)
-      later_alike i h =
-          let old = steady.alike i h in
-          let new : row_at (map later rows) i ≡ later (row_at rows i) = get_or-map later rows i _ in
-          let made : Alike (row_at start i) (later (row_at rows i)) = record { period = old.period; jitter = old.jitter; cost = old.cost } in
-          subst (Alike (row_at start i)) (sym new) made
+  pub steady_later : Steady start (map later_task tasks) × Ticked (allowances_in (rows_of tasks)) (allowances_in (rows_of (map later_task tasks)))
+  steady_later =
+      let rows = rows_of tasks in
+      let rows' = rows_of (map later_task tasks) in
+      let passes : Passes paced rows rows' = rows_later tasks in
+      let facts = list_ticked paced paced_owes rows rows' steady.fit passes in
+      (record { fit = list_later_fit paced paced_owes rows rows' steady.fit passes; alike = rested_later tasks ∙ steady.alike; work = facts.0 ∙ steady.work }, facts.1)
 
-pub steady_start : (m : ℕ) (rows : List Row) → m ≤ length rows → ((i : ℕ) → i < m → Fit (row_at rows i)) → Steady m rows rows
-steady_start m rows room fit = record { room = room; fit = fit; alike = λ i h. alike_same (row_at rows i); demand = refl }
+pub steady_start : (tasks : List Task) → All Fit (rows_of tasks) → Steady tasks tasks
+steady_start tasks fit = record { fit = fit; alike = refl; work = refl }

@@ -6,9 +6,7 @@ use Rattle.std.proofs.lemmas.Bool.{cond-true, cond-false, eq-eqb, ne_eqb, cases_
 use Rattle.std.proofs.Math.ListN.{get_or-map}
 use Rattle.std.proofs.lemmas.List.{length-map}
 use Rattle.source.specs.Facts.{Ticked}
-use Rattle.paced.specs.Tables.{row_at, allowances_of}
-use Rattle.paced.specs.declared.row.Row.{Row}
-use Rattle.plan.specs.declared.tasks.Limit.{Limit}
+use Rattle.source.specs.Facts.{Work}
 use Rattle.calls.specs.declared.Got.{Got}
 use Rattle.calls.specs.declared.Got.TheVariants.{Nobody, Part, Task}
 use Rattle.calls.specs.Steps.{part_unit, task_unit, Due, AgeTold, Idle, Passed}
@@ -17,7 +15,9 @@ use Rattle.run.specs.Steps.{part_served, task_served, served, worked, used, olde
 use Rattle.run.specs.declared.state.Hold.{Hold}
 use Rattle.run.specs.declared.state.Job.{Job}
 use Rattle.run.specs.declared.state.State.{State}
-use Rattle.guarantee.specs.Views.{plan_of, view_of}
+use Rattle.plan.specs.Plans.{Plan}
+use Rattle.plan.specs.Tasks.{rows_of}
+use Rattle.guarantee.specs.Views.{model_of, view_of}
 use Rattle.run.proofs.Firsts.{First, backlog_found, backlogs_clear, pending_found, jobs_clear}
 use Rattle.run.proofs.Steady.{after_use, after_tick, left_older}
 use Rattle.run.proofs.Numbered.{numbered_set, numbered_some}
@@ -116,8 +116,8 @@ gave_task s i a some within =
     less (Some h) = less_at (λ _. h.units) i h.task
 
 -- a tick of the run, once it is known who is due
-module _ (n : ℕ) (d a a' : ℕ → ℕ → ℕ) (m : ℕ) (start rows rows' : List Row) (limits : List Limit) (bounds : List ℕ) (s s1 : State) (got : Got) where
-  passed_from : Gave s s1 got → Due (plan_of n d m start limits bounds) (view_of a m rows s) got → AgeTold (plan_of n d m start limits bounds) (view_of a m rows s) got → Ticked a a' → Ticked (allowances_of m (row_at rows)) (allowances_of m (row_at rows')) → Passed (plan_of n d m start limits bounds) (view_of a m rows s) got (view_of a' m rows' (settled (aged s1)))
+module _ {S : Type 0} (work : S → Work) (plan : Plan S) (bounds : List ℕ) (a a' b b' : ℕ → ℕ → ℕ) (s s1 : State) (got : Got) where
+  passed_from : Gave s s1 got → Due (model_of work plan bounds) (view_of a b s) got → AgeTold (model_of work plan bounds) (view_of a b s) got → Ticked a a' → Ticked b b' → Passed (model_of work plan bounds) (view_of a b s) got (view_of a' b' (settled (aged s1)))
   passed_from gave who told bank tasks =
       let s2 = aged s1 in
       let left : (i : ℕ) → left_of s2.jobs i ≡ left_of s1.jobs i = λ i. left_older s1.jobs i in
@@ -142,26 +142,32 @@ abbrev pub Whose : ℕ → State → Type 0
 Whose m s = ForSome s.hold (λ h. (1 ≤ h.task) × (h.task ≤ m))
 
 -- and it is who the run's rule says
-module _ (n : ℕ) (d a a' : ℕ → ℕ → ℕ) (m : ℕ) (start rows rows' : List Row) (limits : List Limit) (bounds : List ℕ) (s : State)
-    (parts : n ≤ length s.backlogs) (tasks : m ≤ length s.jobs) (whose : Whose m s)
-    (bank : Ticked a a') (paced : Ticked (allowances_of m (row_at rows)) (allowances_of m (row_at rows'))) where
+module _ {S : Type 0} (work : S → Work) (plan : Plan S) (bounds : List ℕ) (a a' b b' : ℕ → ℕ → ℕ) (s : State)
+    (parts : (work plan.bank).parts ≤ length s.backlogs) (tasks : length (rows_of plan.tasks) ≤ length s.jobs) (whose : Whose (length (rows_of plan.tasks)) s)
+    (bank : Ticked a a') (paced : Ticked b b') where
+  abbrev n : ℕ
+  n = (work plan.bank).parts
+
+  abbrev m : ℕ
+  m = length (rows_of plan.tasks)
+
   abbrev Ticks : Got → Type 0
-  Ticks got = Passed (plan_of n d m start limits bounds) (view_of a m rows s) got (view_of a' m rows' (passed s got))
+  Ticks got = Passed (model_of work plan bounds) (view_of a b s) got (view_of a' b' (passed s got))
 
   ticks_part : (k : ℕ) → First (backlog_of s.backlogs) n k → Ticks (Part k)
-  ticks_part k f = passed_from n d a a' m start rows rows' limits bounds s (part_served s k) (Part k) (gave_part s k f.some (omega (arith, f.within))) (f.some, f.within, f.there, f.before) tt bank paced
+  ticks_part k f = passed_from work plan bounds a a' b b' s (part_served s k) (Part k) (gave_part s k f.some (omega (arith, f.within))) (f.some, f.within, f.there, f.before) tt bank paced
 
-  ticks_task : Idle (plan_of n d m start limits bounds) (view_of a m rows s) → (i : ℕ) → 1 ≤ i → i ≤ m → (holder s ≡ i) ⊎ ((holder s ≡ 0) × (i ≤ m) × (1 ≤ left_of s.jobs i) × ((j : ℕ) → 1 ≤ j → j < i → left_of s.jobs j ≡ 0)) → Ticks (Task i (told_age s.jobs i))
-  ticks_task idle i some within why = passed_from n d a a' m start rows rows' limits bounds s (task_served s i) (Task i (told_age s.jobs i)) (gave_task s i (told_age s.jobs i) some (omega arith)) (idle, some, why) refl bank paced
+  ticks_task : Idle (model_of work plan bounds) (view_of a b s) → (i : ℕ) → 1 ≤ i → i ≤ m → (holder s ≡ i) ⊎ ((holder s ≡ 0) × (i ≤ m) × (1 ≤ left_of s.jobs i) × ((j : ℕ) → 1 ≤ j → j < i → left_of s.jobs j ≡ 0)) → Ticks (Task i (told_age s.jobs i))
+  ticks_task idle i some within why = passed_from work plan bounds a a' b b' s (task_served s i) (Task i (told_age s.jobs i)) (gave_task s i (told_age s.jobs i) some (omega arith)) (idle, some, why) refl bank paced
 
-  ticks_nobody : Idle (plan_of n d m start limits bounds) (view_of a m rows s) → holder s ≡ 0 → ((i : ℕ) → 1 ≤ i → i ≤ m → left_of s.jobs i ≡ 0) → Ticks Nobody
-  ticks_nobody idle none no-job = passed_from n d a a' m start rows rows' limits bounds s s Nobody (gave_nobody s) (idle, none, no-job) tt bank paced
+  ticks_nobody : Idle (model_of work plan bounds) (view_of a b s) → holder s ≡ 0 → ((i : ℕ) → 1 ≤ i → i ≤ m → left_of s.jobs i ≡ 0) → Ticks Nobody
+  ticks_nobody idle none no-job = passed_from work plan bounds a a' b b' s s Nobody (gave_nobody s) (idle, none, no-job) tt bank paced
 
   -- no part has backlog
   ticks_foremost : first_backlog s.backlogs n ≡ None → Ticks (due_task s.jobs (foremost m s))
   ticks_foremost clear = by_hold s.hold refl
     where
-      idle : Idle (plan_of n d m start limits bounds) (view_of a m rows s)
+      idle : Idle (model_of work plan bounds) (view_of a b s)
       idle = backlogs_clear s.backlogs n parts clear
 
       by_pending : holder s ≡ 0 → (o : Option ℕ) → first_pending s.jobs m ≡ o → Ticks (due_task s.jobs o)
@@ -172,7 +178,7 @@ module _ (n : ℕ) (d a a' : ℕ → ℕ → ℕ) (m : ℕ) (start rows rows' : 
       by_hold (Some h) e = let there = whose h e in ticks_task idle h.task there.0 there.1 (inl (ap (λ o. holder_in o) e))
       by_hold None e = by_pending (ap (λ o. holder_in o) e) (first_pending s.jobs m) refl
 
-  pub tick_step : Passed (plan_of n d m start limits bounds) (view_of a m rows s) (due n m s) (view_of a' m rows' (passed s (due n m s)))
+  pub tick_step : Passed (model_of work plan bounds) (view_of a b s) (due n m s) (view_of a' b' (passed s (due n m s)))
   tick_step = by_part (first_backlog s.backlogs n) refl
     where
       by_part : (o : Option ℕ) → first_backlog s.backlogs n ≡ o → Ticks (due_first o (due_task s.jobs (foremost m s)))

@@ -1,7 +1,7 @@
 // A run of a judged plan: its calls, what each answers and changes, and when it is refused.
 #![tactic(auto)]
 
-ghost use Rattle.std.specs.Prelude.{◌≡◌, ℕ, ◌<◌, ◌≤◌, length, Some, MatchResult, IfOk, OnOk, OnErr};
+ghost use Rattle.std.specs.Prelude.{◌≡◌, ℕ, ◌<◌, ◌≤◌, length, Some, is_some, MatchResult, IfOk, OnOk, OnErr};
 ghost use Rattle.std.specs.Option.{ForSome};
 ghost use Rattle.std.specs.Result.{result_err, result_ok};
 ghost use Rattle.source.specs.Facts.{Taken, Ticked};
@@ -9,7 +9,7 @@ ghost use Rattle.plan.specs.Plans.{ByJudge};
 ghost use Rattle.run.specs.Faults.{range_fault, tick_fault, named_fault, offer_fault, release_fault, hold_fault, let_go_fault, end_fault, grantable};
 ghost use Rattle.run.specs.Faults.{offer_refusal, release_refusal, hold_refusal, let_go_refusal, end_refusal, tick_refusal};
 ghost use Rattle.run.specs.States.{hold_of};
-ghost use Rattle.run.specs.Runs.{Offered, TickPassed, due_in, is_accepted, run_ended, run_granted, run_let_go, run_released, started, tasks_allowed, tasks_work};
+ghost use Rattle.run.specs.Runs.{Offered, Started, TickPassed, due_in, is_accepted, run_ended, run_granted, run_let_go, run_released, started, tasks_allowed, tasks_work};
 
 mod driving;
 pub mod state;
@@ -95,6 +95,15 @@ impl<G: Gate> Run<G> {
             terms,
             state: State::at_start(),
         }
+    }
+
+    // Whether the run takes calls: exactly if its plan is accepted. It also tells what the type keeps: that the run was started from a
+    // judged plan.
+    pub fn takes_calls(&self) -> bool
+        ensures answer { result ≡ is_some self.now.parts }
+        ensures started { Started G.work self.now }
+    {
+        self.terms.parts.is_some()
     }
 
     // How many parts the bank has, or that the plan is not accepted.
