@@ -1,44 +1,62 @@
--- When offers were taken, and which arrival times explain them, for a period T and a jitter J. Time is counted in ticks,
--- and the start is at time J, so that an arrival up to J ticks before the start has a time too.
+-- When offers were taken, and which arrival times explain them. Time is counted in ticks. A part starts at a time that is its jitter,
+-- so that an arrival up to that long before the start has a time too.
 use Rattle.std.specs.Prelude.{◌≡◌, ℕ, ◌+◌, ◌%◌, ◌<◌, ◌≤◌, Bool, true, false, ◌⊎◌, List, [], ◌∷◌, ◌++◌, length, take, Decides, ◌≢◌, slice_index, slice_index_or}
+use Rattle.paced.specs.Makes.{Asked}
 use Rattle.arrivals.specs.declared.Step.{Step}
 use Rattle.arrivals.specs.declared.Step.TheVariants.{Tick, Offer}
 
--- arrival times a 0, a 1, .. for offers at the times ts: each offer comes 0 to J ticks after its own arrival, and any two
--- arrivals are at least T ticks apart
-pub record Explains (T J : ℕ) (ts : List ℕ) (a : ℕ → ℕ) : Type 0 where
-  pub before : (i : ℕ) → i < length ts → a i ≤ slice_index ts i
-  pub within : (i : ℕ) → i < length ts → slice_index ts i ≤ a i + J
-  pub apart : (i j : ℕ) → i < length ts → j < length ts → (i ≢ j) → (a i + T ≤ a j) ⊎ (a j + T ≤ a i)
+-- arrival times `arrival 0`, `arrival 1`, .. for offers at these times: each offer comes 0 to `jitter` ticks after its own arrival, and
+-- any two arrivals are at least `period` ticks apart
+pub record Explains (period jitter : ℕ) (offers : List ℕ) (arrival : ℕ → ℕ) : Type 0 where
+  pub before : (i : ℕ) → i < length offers → arrival i ≤ slice_index offers i
+  pub within : (i : ℕ) → i < length offers → slice_index offers i ≤ arrival i + jitter
+  pub apart : (i j : ℕ) → i < length offers → j < length offers → (i ≢ j) → (arrival i + period ≤ arrival j) ⊎ (arrival j + period ≤ arrival i)
 
 -- there are such arrival times
 abbrev pub Explained : ℕ → ℕ → List ℕ → Type 0
-Explained T J ts = (a : ℕ → ℕ) × Explains T J ts a
+Explained period jitter offers = (arrival : ℕ → ℕ) × Explains period jitter offers arrival
 
 -- the time after some steps that began at time t
 abbrev pub time : ℕ → List Step → ℕ
 time t [] = t
-time t (Tick ∷ ss) = time (t + 1) ss
-time t (Offer u ∷ ss) = time t ss
+time t (Tick ∷ steps) = time (t + 1) steps
+time t (Offer u ∷ steps) = time t steps
 
 -- the times of the offers that were taken, for steps that began at time t and their answers
 abbrev pub times : ℕ → List Step → List Bool → List ℕ
-times t [] bs = []
-times t (s ∷ ss) [] = []
-times t (Tick ∷ ss) (b ∷ bs) = times (t + 1) ss bs
-times t (Offer u ∷ ss) (true ∷ bs) = t ∷ times t ss bs
-times t (Offer u ∷ ss) (false ∷ bs) = times t ss bs
+times t [] answers = []
+times t (step ∷ steps) [] = []
+times t (Tick ∷ steps) (answer ∷ answers) = times (t + 1) steps answers
+times t (Offer u ∷ steps) (true ∷ answers) = t ∷ times t steps answers
+times t (Offer u ∷ steps) (false ∷ answers) = times t steps answers
 
 -- the cost that is due after n offers were taken, round the cycle of costs
 abbrev pub due : List ℕ → ℕ → ℕ
 due costs n = slice_index costs (n % length costs)
 
--- b is the right answer to an offer of u units at time t, after offers were taken at the times ts: from 1 to the cost that
+-- what is the right answer of such a part to an offer of some units, made now, after the offers that were taken: from 1 to the cost that
 -- is due, it is taken exactly when there are arrival times for those offers and this one; else it is not taken
-pub record Answered (T J : ℕ) (costs ts : List ℕ) (t u : ℕ) (b : Bool) : Type 0 where
-  pub explained : 1 ≤ u → u ≤ due costs (length ts) → Decides b (Explained T J (ts ++ t ∷ []))
-  pub outside : (1 ≤ u → u ≤ due costs (length ts) → ⊥) → b ≡ false
+pub record Answered (asked : Asked) (taken : List ℕ) (now units : ℕ) (answer : Bool) : Type 0 where
+  pub explained : 1 ≤ units → units ≤ due asked.costs (length taken) → Decides answer (Explained asked.period asked.jitter (taken ++ now ∷ []))
+  pub outside : (1 ≤ units → units ≤ due asked.costs (length taken) → ⊥) → answer ≡ false
 
--- bs has the right answer to every offer among the steps ss, by the steps and answers before it, as far as bs goes
-abbrev pub AllAnswered : ℕ → ℕ → List ℕ → List Step → List Bool → Type 0
-AllAnswered T J costs ss bs = (i u : ℕ) → i < length ss → i < length bs → slice_index_or ss i Tick ≡ Offer u → Answered T J costs (times J (take i ss) (take i bs)) (time J (take i ss)) u (slice_index_or bs i false)
+-- from the start of such a part on: the time of step i, counted from 0, and the times of the offers that were taken before it
+abbrev pub time_at : Asked → List Step → ℕ → ℕ
+time_at asked steps i = time asked.jitter (take i steps)
+
+abbrev pub taken_before : Asked → List Step → List Bool → ℕ → List ℕ
+taken_before asked steps answers i = times asked.jitter (take i steps) (take i answers)
+
+-- answer i is right for an offer of some units as step i, by the steps and the answers before it
+abbrev pub AnsweredAt : Asked → List Step → List Bool → ℕ → ℕ → Type 0
+AnsweredAt asked steps answers i units =
+    Answered asked (taken_before asked steps answers i) (time_at asked steps i) units (slice_index_or answers i false)
+
+-- every offer among the steps has the right answer, as far as there are answers
+abbrev pub AllAnswered : Asked → List Step → List Bool → Type 0
+AllAnswered asked steps answers =
+    (i units : ℕ)
+    → i < length steps
+    → i < length answers
+    → slice_index_or steps i Tick ≡ Offer units
+    → AnsweredAt asked steps answers i units

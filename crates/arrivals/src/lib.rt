@@ -1,8 +1,10 @@
 // Drives one paced part from its start, and says which arrival times its answers stand for.
 #![tactic(auto)]
 
-ghost use Rattle.std.specs.Prelude.{◌≡◌, IfOk, Some, None, MatchResult, OnOk};
-ghost use Rattle.paced.specs.Makes.{fault_of, fresh};
+ghost use Rattle.std.specs.Prelude.{◌≡◌, IfOk, OnOk, OnErr};
+ghost use Rattle.std.specs.Result.{result_err};
+ghost use Rattle.refusal.specs.Refusals.{refusal_of};
+ghost use Rattle.paced.specs.Makes.{asked, fault_of, fresh};
 ghost use Rattle.arrivals.specs.Steps.{answer, after, played, moved};
 ghost use Rattle.arrivals.specs.Times.{AllAnswered};
 
@@ -54,9 +56,11 @@ fn play(part: &mut Paced, steps: &[Step], taken: &mut [bool])
 // by at most the jitter.
 #[tactic(auto, using(crate::proofs::Following::played_answered))]
 pub fn replay(pace: Pace, steps: &[Step], taken: &mut [bool]) -> Result<Paced, Refusal>
-    ensures refused { MatchResult result (λ _. fault_of pace.entry.period pace.entry.jitter pace.entry.costs.now ≡ None) (λ e. (fault_of pace.entry.period pace.entry.jitter pace.entry.costs.now ≡ Some e.fault) × (e.line ≡ 0) × (e.task ≡ 0) × (taken.new ≡ taken.old)) }
-    ensures played { IfOk result (λ p. (taken.new ≡ played (fresh pace.entry.period pace.entry.jitter pace.entry.costs.now) steps.now taken.old) × (p.row ≡ moved (fresh pace.entry.period pace.entry.jitter pace.entry.costs.now) steps.now taken.old)) }
-    ensures explained { OnOk result (AllAnswered pace.entry.period pace.entry.jitter pace.entry.costs.now steps.now taken.new) }
+    ensures answer { result_err result ≡ refusal_of (fault_of (asked pace.entry)) 0 }
+    ensures refused { OnErr result (taken.new ≡ taken.old) }
+    ensures played { OnOk result (taken.new ≡ played (fresh (asked pace.entry)) steps.now taken.old) }
+    ensures moved { IfOk result (λ part. part.row ≡ moved (fresh (asked pace.entry)) steps.now taken.old) }
+    ensures explained { OnOk result (AllAnswered (asked pace.entry) steps.now taken.new) }
 {
     let mut part = Paced::new(pace)?;
     play(&mut part, steps, taken);
