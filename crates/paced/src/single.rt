@@ -81,6 +81,7 @@ impl Gate for Paced {
         true
     }
 
+    #[tactic(auto, using(crate::proofs::Ticks::later_ticked))]
     fn tick(&mut self) {
         self.row.lower();
     }
