@@ -22,12 +22,12 @@ after r (Offer u) = cond (takes r u) (given r) r
 -- the answers to the steps, one after another, each in its place in a list that stands ready: steps for which there is
 -- no place are not made, and places for which there is no step stay as they are
 abbrev pub played : Row → List Step → List Bool → List Bool
-played r [] bs = bs
-played r (s ∷ ss) [] = []
-played r (s ∷ ss) (b ∷ bs) = answer r s ∷ played (after r s) ss bs
+played r [] places = places
+played r (step ∷ steps) [] = []
+played r (step ∷ steps) (place ∷ places) = answer r step ∷ played (after r step) steps places
 
--- the row after these steps
+-- the row after the steps for which there is a place
 abbrev pub moved : Row → List Step → List Bool → Row
-moved r [] bs = r
-moved r (s ∷ ss) [] = r
-moved r (s ∷ ss) (b ∷ bs) = moved (after r s) ss bs
+moved r [] places = r
+moved r (step ∷ steps) [] = r
+moved r (step ∷ steps) (place ∷ places) = moved (after r step) steps places

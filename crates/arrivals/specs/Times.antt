@@ -1,5 +1,5 @@
--- When offers were taken, and which arrival times explain them. Time is counted in ticks. A part starts at a time that is its jitter,
--- so that an arrival up to that long before the start has a time too.
+-- When offers were taken, and which arrival times explain them. Time is counted in ticks, and a part starts at the time J, its jitter,
+-- so that an arrival up to J ticks before the start has a time too.
 use Rattle.std.specs.Prelude.{◌≡◌, ℕ, ◌+◌, ◌%◌, ◌<◌, ◌≤◌, Bool, true, false, ◌⊎◌, List, [], ◌∷◌, ◌++◌, length, take, Decides, ◌≢◌, slice_index, slice_index_or}
 use Rattle.paced.specs.Makes.{Asked}
 use Rattle.arrivals.specs.declared.Step.{Step}
@@ -34,29 +34,29 @@ times t (Offer u ∷ steps) (false ∷ answers) = times t steps answers
 abbrev pub due : List ℕ → ℕ → ℕ
 due costs n = slice_index costs (n % length costs)
 
--- what is the right answer of such a part to an offer of some units, made now, after the offers that were taken: from 1 to the cost that
--- is due, it is taken exactly when there are arrival times for those offers and this one; else it is not taken
-pub record Answered (asked : Asked) (taken : List ℕ) (now units : ℕ) (answer : Bool) : Type 0 where
-  pub explained : 1 ≤ units → units ≤ due asked.costs (length taken) → Decides answer (Explained asked.period asked.jitter (taken ++ now ∷ []))
-  pub outside : (1 ≤ units → units ≤ due asked.costs (length taken) → ⊥) → answer ≡ false
+-- a part of that pace, which took offers at the times `taken`, answers an offer of so many units at the time `now` rightly: from 1 to the
+-- cost that is due, it is taken exactly when there are arrival times for those offers and this one; else it is not taken
+pub record Answered (pace : Asked) (taken : List ℕ) (now units : ℕ) (answer : Bool) : Type 0 where
+  pub explained : 1 ≤ units → units ≤ due pace.costs (length taken) → Decides answer (Explained pace.period pace.jitter (taken ++ now ∷ []))
+  pub outside : (1 ≤ units → units ≤ due pace.costs (length taken) → ⊥) → answer ≡ false
 
--- from the start of such a part on: the time of step i, counted from 0, and the times of the offers that were taken before it
+-- the time of step i of a part of that pace, counted from 0, and the times of the offers that were taken before it
 abbrev pub time_at : Asked → List Step → ℕ → ℕ
-time_at asked steps i = time asked.jitter (take i steps)
+time_at pace steps i = time pace.jitter (take i steps)
 
 abbrev pub taken_before : Asked → List Step → List Bool → ℕ → List ℕ
-taken_before asked steps answers i = times asked.jitter (take i steps) (take i answers)
+taken_before pace steps answers i = times pace.jitter (take i steps) (take i answers)
 
--- answer i is right for an offer of some units as step i, by the steps and the answers before it
+-- answer i is right for step i as an offer of so many units, by the steps and the answers before it
 abbrev pub AnsweredAt : Asked → List Step → List Bool → ℕ → ℕ → Type 0
-AnsweredAt asked steps answers i units =
-    Answered asked (taken_before asked steps answers i) (time_at asked steps i) units (slice_index_or answers i false)
+AnsweredAt pace steps answers i units =
+    Answered pace (taken_before pace steps answers i) (time_at pace steps i) units (slice_index_or answers i false)
 
--- every offer among the steps has the right answer, as far as there are answers
+-- every offer among the steps is answered rightly, as far as there are answers
 abbrev pub AllAnswered : Asked → List Step → List Bool → Type 0
-AllAnswered asked steps answers =
+AllAnswered pace steps answers =
     (i units : ℕ)
     → i < length steps
     → i < length answers
     → slice_index_or steps i Tick ≡ Offer units
-    → AnsweredAt asked steps answers i units
+    → AnsweredAt pace steps answers i units

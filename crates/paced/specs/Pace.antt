@@ -45,16 +45,19 @@ given r = record { period = r.period; jitter = r.jitter; count = r.count; costs 
 abbrev pub later : Row → Row
 later r = record { period = r.period; jitter = r.jitter; count = r.count; costs = r.costs; level = r.level - 1; place = r.place }
 
--- what holds of every paced part that exists: its period and jitter, its places and level, its costs
+-- What every paced part keeps to. Its period and jitter:
 abbrev pub Paces : Row → Type 0
 Paces r = (1 ≤ r.period) × (r.period ≤ 1000000) × (r.jitter < r.period)
 
+-- its table of 8 costs, of which the first `count` are in use, the next cost one of them, and its level:
 abbrev pub Places : Row → Type 0
 Places r = (length r.costs ≡ 8) × (r.count ≤ 8) × (r.place < r.count) × (r.level ≤ r.jitter + r.period)
 
+-- and each cost:
 abbrev pub Costs : Row → Type 0
 Costs r = (i : ℕ) → at r.costs i ≤ 1000000
 
+-- a row is fit if it is a paced part
 pub record Fit (r : Row) : Type 0 where
   pub paces : Paces r
   pub places : Places r

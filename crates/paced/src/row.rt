@@ -163,7 +163,7 @@ impl Row {
     pub fn new(pace: Pace) -> Result<Row, Fault>
         ensures answer { result_err result ≡ fault_of (asked pace.entry) }
         ensures made { IfOk result (λ row. row ≡ fresh (asked pace.entry)) }
-        ensures fit { IfOk result (λ row. Fit row) }
+        ensures fit { IfOk result Fit }
     {
         pace.fault().map_or(Ok(()), Err)?;
         Ok(pace.fresh_row())

@@ -1,9 +1,9 @@
 // Tables of paced parts: plain rows, of which the table says what they keep to.
 ghost use Rattle.std.specs.Prelude.{◌≡◌, ℕ, ◌-◌, ◌<◌, ◌≤◌, ◌++◌, [], ◌∷◌, All, min, length, take, Some, None, MatchOption, IfSome, OnOk, OnErr, nat_lt, slice_set};
 ghost use Rattle.std.specs.Result.{result_err};
+ghost use Rattle.std.proofs.Common.{arith};
 ghost use Rattle.source.proofs.Gates.{list_sound, list_taken, list_ticked};
 ghost use Rattle.source.specs.Rows.{Gives, Passes};
-ghost use Rattle.std.proofs.Common.{arith};
 ghost use Rattle.paced.specs.Loads.{row_load};
 ghost use Rattle.paced.specs.Makes.{asked, adding, fresh};
 ghost use Rattle.paced.specs.Pace.{Fit, largest_cost, paced};

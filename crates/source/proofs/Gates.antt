@@ -1,14 +1,14 @@
 -- A list of rows of one kind is a source and a gate, and so is a single row, whatever the kind.
 -- The laws of traits cite these lemmas.
-use Rattle.std.specs.Prelude.{◌≡◌, ℕ, ◌+◌, ◌-◌, ◌<◌, ◌≤◌, true, List, All, map, length, ◌≢◌, slice_set, refl}
+use Rattle.std.specs.Prelude.{◌≡◌, ℕ, ◌+◌, ◌-◌, ◌<◌, ◌≤◌, true, List, All, length, ◌≢◌, refl}
 use Rattle.std.proofs.Common.{sym, ap, ◌∙◌, subst, inl, inr, arith, get_or-set_same, get_or-set_other}
 use Rattle.std.proofs.Math.Path.{fun_ext}
 use Rattle.std.proofs.lemmas.List.{get_or-map, length-map, length-set}
-use Rattle.std.proofs.lemmas.List.Elements.{All-get_or, All-set, All-map, All-weaker}
+use Rattle.std.proofs.lemmas.List.Elements.{All-set, All-map, All-weaker}
 use Rattle.std.proofs.lemmas.Bool.{cond-true, cond-false, cases_eq}
-use Rattle.source.specs.Facts.{Work, is_part, offerable, Sound, Taken, Ticked}
+use Rattle.source.specs.Facts.{is_part, offerable, Sound, Taken, Ticked}
 use Rattle.source.specs.Rows.{Kind, Owes, demand_by, allowance_by, row_of, work_of, allowed_of, Gives, Passes, work_one, allowed_one, GivesOne}
-use Rattle.source.proofs.Parts.{place_of, part_from, part_bounds, offerable_parts, offerable_from, by_part}
+use Rattle.source.proofs.Parts.{place_of, part_from, offerable_parts, offerable_from, by_part}
 
 module _ {R : Type 0} (kind : Kind R) {Fit : R → Type 0} (owes : Owes kind Fit) where
   -- n rows that are fit, told by their places

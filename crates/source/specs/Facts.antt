@@ -22,7 +22,7 @@ is_part n k = nat_le 1 k && nat_le k n
 abbrev pub demand_answer : Work → ℕ → ℕ → Option ℕ
 demand_answer w k l = cond (is_part w.parts k && nat_le l 1000000) (Some (w.demand k l)) None
 
--- the answer to what part k of n may bring in this tick, if that is `most`: none for a number that is no part
+-- the answer to what part k of n may bring in this tick, where a tells what the parts may bring: none for a number that is no part
 abbrev pub allowance_answer : ℕ → (ℕ → ℕ → ℕ) → ℕ → Option ℕ
 allowance_answer n a k = cond (is_part n k) (Some (a k 1)) None
 

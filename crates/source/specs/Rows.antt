@@ -1,6 +1,6 @@
 -- Gates that are made of rows, each of one part: a list of rows, whose parts are the rows in their order, and a single row. What is
 -- said and proved here holds of any kind of row.
-use Rattle.std.specs.Prelude.{◌≡◌, ℕ, ◌+◌, ◌-◌, ◌≤◌, true, cond, List, All, length, map, slice_index_or, slice_set}
+use Rattle.std.specs.Prelude.{◌≡◌, ℕ, ◌+◌, ◌-◌, ◌≤◌, true, cond, List, length, map, slice_index_or, slice_set}
 use Rattle.source.specs.Facts.{Work, is_part, offerable}
 
 -- A kind of row: the most that a row brings in any so many ticks in a row, the most that it may bring in the next so many ticks, what a
@@ -60,7 +60,7 @@ module _ {R : Type 0} (kind : Kind R) where
   abbrev pub allowed_one : R → ℕ → ℕ → ℕ
   allowed_one r = allowance_by 1 (λ _. r)
 
-  -- a single row takes an offer of u units
+  -- a single row takes an offer of u units at part k, which is 1
   pub record GivesOne (r : R) (k u : ℕ) (r' : R) : Type 0 where
     pub offered : offerable 1 (allowed_one r) k u ≡ true
     pub moved : r' ≡ kind.given r u
