@@ -1,5 +1,5 @@
 -- One task more: what the tasks of a plan keep to.
-use Rattle.std.proofs.Common.{◌≡◌, ℕ, ◌+◌, ◌<◌, ◌≤◌, Bool, true, false, cond, ◌&&◌, ltb, leb, List, [], ◌∷◌, ◌++◌, length, get_or, Some, None, Option, refl, ap, inl, inr, arith, length-append}
+use Rattle.std.proofs.Common.{◌≡◌, ℕ, ◌+◌, ◌<◌, ◌≤◌, Bool, true, false, cond, ◌&&◌, ltb, leb, List, [], ◌∷◌, ◌++◌, length, get_or, Some, None, Option, set, sym, subst, ◌∙◌, refl, ap, inl, inr, arith, length-append, length-set}
 use Rattle.std.proofs.lemmas.Bool.{cases_lt, leb-true, ltb-true, and_parts}
 use Rattle.std.proofs.lemmas.List.{get_or_append_left, get_or_push, get_or-map, length-map}
 use Rattle.std.proofs.lemmas.List.Elements.{All-push}
@@ -7,11 +7,14 @@ use Rattle.std.proofs.lemmas.List.Sums.{AllPass-from_list_all}
 use Rattle.refusal.specs.Table.{row, first_of}
 use Rattle.refusal.specs.declared.Fault.{Fault}
 use Rattle.refusal.specs.declared.Fault.TheVariants.{TooMany, OutOfRange, Misfit, HoldAboveBlocking}
-use Rattle.paced.specs.Makes.{Asked, in_range, fault_of, adding}
+use Rattle.paced.specs.Makes.{Asked, fresh, in_range, fault_of, adding}
 use Rattle.paced.specs.Pace.{Fit}
+use Rattle.paced.specs.Tables.{FitRows}
+use Rattle.paced.specs.declared.row.Row.{Row}
 use Rattle.paced.proofs.Makings.{passed, fresh_fit}
 use Rattle.plan.specs.Limits.{bearable, limit_fault, task_fault}
-use Rattle.plan.specs.Tasks.{Task, made, task_at, limits_of, unlimited, AtRest, Fitting}
+use Rattle.plan.specs.Tasks.{Task, made, task_at, limits_of, unlimited, side_by_side, AtRest, Fitting, Sides}
+use Rattle.plan.proofs.Sides.{seen_count, seen_fitting, sides_more}
 use Rattle.plan.specs.declared.tasks.Limit.{Limit}
 
 -- where no fault is found in either of two, none is found in both
@@ -89,5 +92,23 @@ pub part_clean : (tasks : List Task) (a : Asked) (l : Limit) → task_fault task
 part_clean tasks a l none = (first_none (adding 16 (length tasks) a) (limit_fault tasks a l) none).0
 
 -- where a task was added there was room
-pub had_room : (tasks : List Task) (a : Asked) (l : Limit) → task_fault tasks a l ≡ None → length tasks < 16
+had_room : (tasks : List Task) (a : Asked) (l : Limit) → task_fault tasks a l ≡ None → length tasks < 16
 had_room tasks a l none = ltb-true (length tasks) 16 (passed (ltb (length tasks) 16) (fault_of a) TooMany (first_none (adding 16 (length tasks) a) (limit_fault tasks a l) none).0).0
+
+-- the fields of a table of tasks after one more was added
+module _ (parts : FitRows 16) (limits : List Limit) (sides : Sides parts.list limits) (tasks : List Task) (seen : side_by_side parts.list limits ≡ tasks) (a : Asked) (l : Limit) (clean : task_fault tasks a l ≡ None)
+    (rows' : List Row) (limits' : List Limit) (rows_more : rows' ≡ parts.list ++ fresh a ∷ []) (limits_more : limits' ≡ set limits (length tasks) l) where
+  pub grown : side_by_side rows' limits' ≡ tasks ++ made a l ∷ []
+  grown =
+      let count = seen_count parts limits sides tasks seen in
+      let room : length parts.list < length limits = omega (arith, had_room tasks a l clean, count, sides.room) in
+      (λ i. side_by_side (rows_more i) ((limits_more ∙ ap (λ n. set limits n l) (sym count)) i))
+      ∙ sides_more parts.list limits (fresh a) l room
+      ∙ ap (λ xs. xs ++ made a l ∷ []) seen
+
+  pub grown_sides : Sides rows' limits'
+  grown_sides =
+      record {
+        room = ap length limits_more ∙ length-set limits (length tasks) l ∙ sides.room;
+        fitting = subst Fitting (sym grown) (add_fitting tasks a l clean (seen_fitting parts limits sides tasks seen));
+      }

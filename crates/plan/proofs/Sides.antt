@@ -1,12 +1,14 @@
 -- Rows and limits side by side as a list of tasks.
-use Rattle.std.proofs.Common.{◌≡◌, ℕ, ◌<◌, ◌≤◌, All, List, [], ◌∷◌, ◌++◌, length, get_or, set, take, sym, refl, ap, ◌∙◌, subst, arith}
+use Rattle.std.proofs.Common.{◌≡◌, ℕ, ◌<◌, ◌≤◌, true, ◌+◌, ◌-◌, Some, All, List, [], ◌∷◌, ◌++◌, length, get_or, set, take, sym, refl, ap, ◌∙◌, subst, arith}
 use Rattle.std.proofs.lemmas.List.{get_or-map, get_or-take, length-map}
 use Rattle.std.proofs.lemmas.List.Elements.{All-map}
+use Rattle.std.proofs.lemmas.Bool.{cond-true}
 use Rattle.source.proofs.Gates.{list_sound}
-use Rattle.source.specs.Facts.{Sound}
-use Rattle.paced.specs.Pace.{blank, Fit, paced}
+use Rattle.source.proofs.Parts.{part_from}
+use Rattle.source.specs.Facts.{is_part, Sound}
+use Rattle.paced.specs.Pace.{blank, largest_cost, Fit, paced}
 use Rattle.paced.specs.Rows.{paced_owes}
-use Rattle.paced.specs.Tables.{FitRows, row_at, work_in, allowances_in}
+use Rattle.paced.specs.Tables.{FitRows, row_at, told_of, work_in, allowances_in}
 use Rattle.paced.specs.declared.row.Row.{Row}
 use Rattle.plan.specs.Tasks.{Task, unlimited, task_at, rows_of, limits_of, side_by_side, Fitting, Sides}
 use Rattle.plan.specs.declared.tasks.Limit.{Limit}
@@ -38,29 +40,57 @@ rows_fit tasks fitting = All-map Fit (λ (t : Task). t.row) tasks fitting.rows
 pub tasks_sound : (tasks : List Task) → Fitting tasks → Sound (work_in (rows_of tasks)) (allowances_in (rows_of tasks))
 tasks_sound tasks fitting = list_sound paced paced_owes (rows_of tasks) (omega (arith, length-map tasks (λ t. t.row), fitting.few)) (rows_fit tasks fitting)
 
--- the fields of a table of tasks, as the list that is seen of it
+-- rows in a table and limits with room for 16, as the list of tasks that is seen of them
 module _ (parts : FitRows 16) (limits : List Limit) (room : length limits ≡ 16) (tasks : List Task) (seen : side_by_side parts.list limits ≡ tasks) where
   short : length parts.list ≤ length limits
   short = omega (arith, parts.few, room)
 
-  pub seen_rows : parts.list ≡ rows_of tasks
-  seen_rows = sym (rows_sides parts.list limits short) ∙ ap rows_of seen
+  pub rows_in : parts.list ≡ rows_of tasks
+  rows_in = sym (rows_sides parts.list limits short) ∙ ap rows_of seen
 
-  pub seen_count : length parts.list ≡ length tasks
-  seen_count = sym (length_sides parts.list limits short) ∙ ap length seen
+  pub count_in : length parts.list ≡ length tasks
+  count_in = sym (length_sides parts.list limits short) ∙ ap length seen
 
-  pub seen_limits : take (length parts.list) limits ≡ limits_of tasks
-  seen_limits = sym (limits_sides parts.list limits short) ∙ ap limits_of seen
+  pub limits_in : take (length parts.list) limits ≡ limits_of tasks
+  limits_in = sym (limits_sides parts.list limits short) ∙ ap limits_of seen
 
   -- what stands at a place in use
-  pub seen_limit : (i : ℕ) → i < length tasks → get_or limits i unlimited ≡ (task_at tasks i).limit
-  seen_limit i h =
-      sym (get_or-take (length parts.list) limits i unlimited (omega (arith, seen_count)))
-      ∙ ap (λ xs. get_or xs i unlimited) seen_limits
+  pub limit_in : (i : ℕ) → i < length tasks → get_or limits i unlimited ≡ (task_at tasks i).limit
+  limit_in i h =
+      sym (get_or-take (length parts.list) limits i unlimited (omega (arith, count_in)))
+      ∙ ap (λ xs. get_or xs i unlimited) limits_in
       ∙ get_or-map (λ t. t.limit) tasks i _ unlimited h
 
-  pub seen_row : (i : ℕ) → i < length tasks → row_at parts.list i ≡ (task_at tasks i).row
-  seen_row i h = ap (λ xs. row_at xs i) seen_rows ∙ get_or-map (λ t. t.row) tasks i _ blank h
+  pub row_in : (i : ℕ) → i < length tasks → row_at parts.list i ≡ (task_at tasks i).row
+  row_in i h = ap (λ xs. row_at xs i) rows_in ∙ get_or-map (λ t. t.row) tasks i _ blank h
 
-  pub seen_fitting : Sides parts.list limits → Fitting tasks
-  seen_fitting sides = subst Fitting seen sides.fitting
+-- the same of the fields of a table of tasks, which keep to more
+module _ (parts : FitRows 16) (limits : List Limit) (sides : Sides parts.list limits) (tasks : List Task) (seen : side_by_side parts.list limits ≡ tasks) where
+  pub seen_rows : parts.list ≡ rows_of tasks
+  seen_rows = rows_in parts limits sides.room tasks seen
+
+  pub seen_count : length parts.list ≡ length tasks
+  seen_count = count_in parts limits sides.room tasks seen
+
+  pub seen_limits : take (length parts.list) limits ≡ limits_of tasks
+  seen_limits = limits_in parts limits sides.room tasks seen
+
+  pub seen_limit : (i : ℕ) → i < length tasks → get_or limits i unlimited ≡ (task_at tasks i).limit
+  seen_limit i h = limit_in parts limits sides.room tasks seen i h
+
+  pub seen_fitting : Fitting tasks
+  seen_fitting = subst Fitting seen sides.fitting
+
+  pub seen_deadline : (i : ℕ) → i < length tasks → (get_or limits i unlimited).deadline ≤ 1000000
+  seen_deadline i h =
+      let within : (task_at tasks i).limit.deadline + (task_at tasks i).row.jitter ≤ (task_at tasks i).row.period = seen_fitting.deadlines i _ h in
+      let fit : Fit (task_at tasks i).row = seen_fitting.rows i _ h in
+      omega (arith, ap (λ l. l.deadline) (seen_limit i h), within, fit.paces)
+
+  pub seen_largest : (i : ℕ) → i < length tasks → told_of largest_cost parts.list (i + 1) ≡ Some (largest_cost (task_at tasks i).row)
+  seen_largest i h =
+      let part : is_part (length parts.list) (i + 1) ≡ true = part_from (length parts.list) (i + 1) (omega arith) (omega (arith, seen_count, h)) in
+      let same : i + 1 - 1 ≡ i = omega arith in
+      cond-true (is_part (length parts.list) (i + 1)) _ _ part
+      ∙ ap (λ k. Some (largest_cost (row_at parts.list k))) same
+      ∙ ap (λ r. Some (largest_cost r)) (row_in parts limits sides.room tasks seen i h)

@@ -12,9 +12,13 @@ use Rattle.plan.specs.declared.tasks.Limit.{Limit}
 abbrev pub bearable : List Task → ℕ → Bool
 bearable tasks h = list_all (λ limit. nat_le h limit.blocking) (limits_of tasks)
 
--- what is wrong with the limits l of one task more, of whose paced part that is asked
+-- limits whose numbers may be given: the deadline from 1 to 1,000,000, blocking and hold at most that
+abbrev pub limits_right : Limit → Bool
+limits_right l = in_range l.deadline && (nat_le l.blocking 1000000 && nat_le l.hold 1000000)
+
+-- what is wrong with the limits l of one task more, of whose paced part that is asked, the fault with the smallest number first
 abbrev pub limit_fault : List Task → Asked → Limit → Option Fault
-limit_fault tasks a l = cond (in_range l.deadline && (nat_le l.blocking 1000000 && nat_le l.hold 1000000)) (cond (nat_le (l.deadline + a.jitter) a.period) (cond (bearable tasks l.hold) None (Some HoldAboveBlocking)) (Some Misfit)) (Some OutOfRange)
+limit_fault tasks a l = cond (limits_right l) (cond (nat_le (l.deadline + a.jitter) a.period) (cond (bearable tasks l.hold) None (Some HoldAboveBlocking)) (Some Misfit)) (Some OutOfRange)
 
 -- what is wrong with one task more
 abbrev pub task_fault : List Task → Asked → Limit → Option Fault

@@ -17,6 +17,10 @@ pub record Judgement (S : Type 0) : Type 0 where
   pub verdict : Verdict
   pub bounds : List ℕ
 
+-- a judged plan by its parts
+abbrev pub judgement : {S : Type 0} → S → List Task → Verdict → List ℕ → Judgement S
+judgement bank tasks v bounds = record { plan = record { bank = bank; tasks = tasks }; verdict = v; bounds = bounds }
+
 -- the verdict and the bounds are those of the judge, on tasks as a plan takes them; `work` tells what a bank brings
 pub record ByJudge {S : Type 0} (work : S → Work) (j : Judgement S) : Type 0 where
   pub fitting : Fitting j.plan.tasks

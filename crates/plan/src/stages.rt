@@ -43,13 +43,13 @@ pub struct JudgedPlan<S: Source> {
 }
 
 impl<S: Source> Model for JudgedPlan<S> {
-    ghost use Rattle.plan.specs.Plans.{Judgement, ByJudge};
+    ghost use Rattle.plan.specs.Plans.{Judgement, judgement, ByJudge};
 
     ghost Value = { Judgement S };
 
-    ghost view = { λ p. record { plan = record { bank = p.bank; tasks = p.tasks }; verdict = p.verdict; bounds = p.bounds } };
+    ghost view = { λ p. judgement p.bank p.tasks p.verdict p.bounds };
 
-    ghost invariant = { λ p. ByJudge S.work (record { plan = record { bank = p.bank; tasks = p.tasks }; verdict = p.verdict; bounds = p.bounds }) };
+    ghost invariant = { λ p. ByJudge S.work (judgement p.bank p.tasks p.verdict p.bounds) };
 }
 
 // What a judged plan consists of, in fixed memory as there: without its invariant, so that it can be taken apart.
@@ -117,7 +117,7 @@ impl<S: Source> OpenPlan<S> {
     }
 }
 
-// Each of these also tells what the type keeps: that verdict and bounds are those of the judge.
+// A plan that is taken apart, its verdict and its bounds also tell what the type keeps: that verdict and bounds are those of the judge.
 impl<S: Source> JudgedPlan<S> {
     // Takes the plan apart.
     pub fn into_parts(self) -> Parts<S>

@@ -1,5 +1,5 @@
 // The tasks of a plan: their paced parts and their limits.
-ghost use Rattle.std.specs.Prelude.{◌≡◌, ◌+◌, ◌-◌, ◌^◌, ◌<◌, ◌≤◌, ◌++◌, [], ◌∷◌, length, OnOk, OnErr, nat_le};
+ghost use Rattle.std.specs.Prelude.{◌≡◌, ◌+◌, ◌-◌, ◌^◌, ◌<◌, ◌≤◌, ◌++◌, [], ◌∷◌, length, OnOk, OnErr, nat_le, slice_set};
 ghost use Rattle.std.specs.List.{list_all};
 ghost use Rattle.std.specs.Result.{result_err};
 ghost use Rattle.paced.specs.Loads.{row_load};
@@ -44,11 +44,29 @@ impl Model for Tasks {
     ghost invariant = { λ t. Sides t.parts.list t.limits };
 }
 
+// What a task needs itself, by its blocking and its largest cost.
+fn own_need_of(blocking: u32, largest: u32) -> u64
+    ensures value { result ≡ blocking + largest }
+    ensures small { result < 2 ^ 33 }
+{
+    u64::from(blocking) + u64::from(largest)
+}
+
 // Whether a hold is at most the blocking in each of some limits.
 fn bearable_by(limits: &[Limit], hold: u32) -> bool
     ensures { result ≡ list_all (λ limit. nat_le hold limit.blocking) limits.now }
 {
     limits.iter().all(|limit| hold <= limit.blocking)
+}
+
+// Limits by place, with those of one task put at its place.
+fn with_limit(limits: [Limit; 16], place: usize, limit: Limit) -> [Limit; 16]
+    requires { place < 16 }
+    ensures { result ≡ slice_set limits place limit }
+{
+    let mut changed = limits;
+    changed[place] = limit;
+    changed
 }
 
 impl Tasks {
@@ -63,6 +81,7 @@ impl Tasks {
     }
 
     // The paced parts of the tasks.
+    #[tactic(auto, using(crate::proofs::Sides::seen_rows))]
     pub(crate) fn parts(&self) -> &Table<16>
         ensures { result.now.list ≡ rows_of self.now }
     {
@@ -70,6 +89,7 @@ impl Tasks {
     }
 
     // The limits of the tasks.
+    #[tactic(auto, using(crate::proofs::Sides::seen_limits))]
     fn limits(&self) -> &[Limit]
         ensures { result.now ≡ limits_of self.now }
     {
@@ -110,13 +130,12 @@ impl Tasks {
         first_fault(self.parts().fault(pace), self.limit_fault(pace, limit)).map_or(Ok(()), Err)?;
         let place = self.count() as usize;
         self.parts.add(pace)?;
-        let mut limits = self.limits;
-        limits[place] = limit;
-        self.limits = limits;
+        self.limits = with_limit(self.limits, place, limit);
         Ok(())
     }
 
     // How many tasks there are, and what they keep to.
+    #[tactic(auto, using(crate::proofs::Sides::seen_count, crate::proofs::Sides::seen_fitting))]
     pub fn count(&self) -> u32
         ensures count { result ≡ length self.now }
         ensures fitting { Fitting self.now }
@@ -140,6 +159,7 @@ impl Tasks {
     }
 
     // Takes the tasks apart: their paced parts, with their levels and places, and their limits, by place.
+    #[tactic(auto, using(crate::proofs::Sides::seen_count, crate::proofs::Sides::seen_fitting))]
     pub fn into_parts(self) -> (Table<16>, [Limit; 16])
         ensures tasks { side_by_side result.0.list result.1 ≡ self }
         ensures count { length result.0.list ≡ length self }
@@ -150,6 +170,7 @@ impl Tasks {
     }
 
     // The deadline of the task at a place, counted from 0. This and the next ask for a place in use, as the search does.
+    #[tactic(auto, using(crate::proofs::Sides::seen_limit, crate::proofs::Sides::seen_deadline, crate::proofs::Sides::seen_fitting))]
     pub(crate) fn deadline(&self, place: u32) -> u32
         requires { place < length self.now }
         ensures value { result ≡ (task_at self.now place).limit.deadline }
@@ -160,12 +181,13 @@ impl Tasks {
     }
 
     // What the task at a place needs besides what goes before it: its blocking and its largest cost.
+    #[tactic(auto, using(crate::proofs::Sides::seen_limit, crate::proofs::Sides::seen_largest))]
     pub(crate) fn own_need(&self, place: u32) -> u64
         requires { place < length self.now }
         ensures value { result ≡ own_need (task_at self.now place) }
         ensures small { result < 2 ^ 33 }
     {
         let largest = self.parts.largest_cost(place + 1).unwrap_or(0);
-        u64::from(self.limits[place as usize].blocking) + u64::from(largest)
+        own_need_of(self.limits[place as usize].blocking, largest)
     }
 }

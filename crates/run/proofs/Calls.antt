@@ -5,7 +5,7 @@ use Rattle.source.specs.Rows.{Gives, Passes}
 use Rattle.source.proofs.Parts.{part_from, offerable_from}
 use Rattle.paced.specs.Pace.{paced}
 use Rattle.paced.specs.Tables.{FitRows, work_in, allowances_in}
-use Rattle.plan.proofs.Sides.{seen_rows, seen_count}
+use Rattle.plan.proofs.Sides.{rows_in, count_in}
 use Rattle.plan.specs.Tasks.{rows_of, side_by_side}
 use Rattle.plan.specs.declared.tasks.Limit.{Limit}
 use Rattle.calls.specs.declared.Got.{Got}
@@ -26,10 +26,10 @@ module _ {S : Type 0} (work : S → Work) (bank : S) (table : FitRows 16) (limit
   r = now bank table s
 
   rows_are : (t : FitRows 16) → rows_of (side_by_side t.list limits) ≡ t.list
-  rows_are t = sym (seen_rows t limits room (side_by_side t.list limits) refl)
+  rows_are t = sym (rows_in t limits room (side_by_side t.list limits) refl)
 
   count : length table.list ≡ length r.tasks
-  count = seen_count table limits room r.tasks refl
+  count = count_in table limits room r.tasks refl
 
   -- a release that has no fault is taken by the table
   pub release_taken : (i u : ℕ) → release_fault r i u ≡ None → offerable (length table.list) (allowances_in table.list) i u ≡ true
