@@ -1,13 +1,16 @@
 // A gate and a source that the libraries do not know, as another author would write them.
 #![tactic(auto)]
 
-ghost use Rattle.std.specs.Prelude.{◌≡◌, ℕ, ◌<◌, ◌≤◌, true, false, ◌&&◌, if◌then◌else◌, Some, None, MatchOption, nat_le};
-ghost use Rattle.source.specs.Facts.{is_part, offerable, Sound, Kept, Taken, Ticked, Driven};
-ghost use Rattle.gate_tests.specs.Stores.{held, alike, Gives};
-ghost use Rattle.gate_tests.specs.Storing.{stores_sound, stores_kept, stores_taken, stores_ticked};
-ghost use Rattle.std.proofs.Common.{rules, arith};
+ghost use Rattle.std.specs.Prelude.{◌≡◌, ◌<◌, ◌≤◌, [], ◌∷◌, All, IfSome, IsNone, ◌↔◌};
+ghost use Rattle.source.specs.Facts.{Sound};
+ghost use Rattle.source.specs.Rows.{work_of, allowed_of, Gives, Passes};
+ghost use Rattle.source.proofs.Gates.{list_sound, list_taken, list_ticked};
+ghost use Rattle.gate_tests.specs.Stores.{over, full, stores, Fit, in_order, alike};
+ghost use Rattle.gate_tests.specs.Storing.{stores_owe, alike_sound};
+ghost use Rattle.std.proofs.Common.{arith};
 
 use source::{Gate, LONGEST, MOST_PARTS, Source};
+use std::marker::Model;
 
 // A store of units: how many it had at first, and how many are left.
 #[derive(Clone, Copy)]
@@ -19,20 +22,26 @@ pub struct Store {
 // How many stores a reserve has.
 pub const STORES: u32 = 2;
 
-// A gate of two parts, each a store that is never filled up again. Two fields and no array, since a clause
-// names the one or the other.
-#[derive(Clone, Copy)]
+// A gate of two parts, each a store that is never filled up again, seen as its stores. Two fields and no array, since a method
+// changes the one or the other.
+#[derive(Drop)]
 pub struct Reserve {
     first: Store,
     second: Store,
-    ghost sizes: { (first.size ≤ 4294967295) × (second.size ≤ 4294967295) },
-    ghost firsts: { first.left ≤ first.size },
-    ghost seconds: { second.left ≤ second.size },
+    ghost fit: { All Fit (first ∷ second ∷ []) },
+}
+
+impl Model for Reserve {
+    ghost use Rattle.gate_tests.specs.Stores.{FitStores};
+
+    ghost Value = { FitStores };
+
+    ghost view = { λ r. record { first = r.first; second = r.second; fit = r.fit } };
 }
 
 // The units over that many ticks: none over no tick.
 fn over(units: u32, ticks: u32) -> u64
-    ensures { result ≡ (if nat_le 1 ticks then units else 0) }
+    ensures { result ≡ over units ticks }
 {
     if ticks < 1 { 0 } else { u64::from(units) }
 }
@@ -40,8 +49,8 @@ fn over(units: u32, ticks: u32) -> u64
 impl Reserve {
     // Two full stores of these sizes.
     pub fn new(first: u32, second: u32) -> Reserve
-        ensures first { result.first ≡ record { size = first; left = first } }
-        ensures second { result.second ≡ record { size = second; left = second } }
+        ensures first { result.first ≡ full first }
+        ensures second { result.second ≡ full second }
     {
         Reserve {
             first: Store {
@@ -57,13 +66,11 @@ impl Reserve {
 }
 
 impl Source for Reserve {
-    ghost parts = { λ _. 2 };
+    ghost work = { λ s. work_of stores (in_order s) };
 
-    ghost demanded = { λ s. held s.first.size s.second.size };
+    ghost allowed = { λ s. allowed_of stores (in_order s) };
 
-    ghost allowed = { λ s. held s.first.left s.second.left };
-
-    ghost sound = { λ s. stores_sound s.first.size s.second.size s.first.left s.second.left s.sizes.0 s.sizes.1 s.firsts s.seconds };
+    ghost sound = { λ s. list_sound stores stores_owe (in_order s) (omega arith) s.fit };
 
     fn count(&self) -> u32 {
         STORES
@@ -90,13 +97,14 @@ impl Source for Reserve {
 }
 
 impl Gate for Reserve {
-    ghost takes = { λ s k u t. (t.first.size ≡ s.first.size) × (t.second.size ≡ s.second.size) × Gives s.first.left s.second.left k u t.first.left t.second.left };
-
-    ghost ticks = { λ s t. (t.first.size ≡ s.first.size) × (t.second.size ≡ s.second.size) × (t.first.left ≡ s.first.left) × (t.second.left ≡ s.second.left) };
+    ghost moves = { record {
+      takes = λ s k u t. Gives stores (in_order s) k u (in_order t);
+      ticks = λ s t. Passes stores (in_order s) (in_order t);
+    } };
 
     ghost driven = { record {
-      taken = λ s t k u h. (stores_kept s.first.size s.second.size t.first.size t.second.size h.0 h.1, stores_taken s.first.left s.second.left k u t.first.left t.second.left h.2);
-      ticked = λ s t h. (stores_kept s.first.size s.second.size t.first.size t.second.size h.0 h.1, stores_ticked s.first.left s.second.left t.first.left t.second.left h.2 h.3);
+      taken = λ s t k u gives. list_taken stores stores_owe (in_order s) k u (in_order t) s.fit gives;
+      ticked = λ s t passes. list_ticked stores stores_owe (in_order s) (in_order t) s.fit passes;
     } };
 
     fn offer(&mut self, part: u32, units: u64) -> bool {
@@ -125,17 +133,26 @@ impl Gate for Reserve {
     fn tick(&mut self) {}
 }
 
-// A source that is no gate: up to 1,000 parts, each of which brings one unit in any window of at least a tick.
-#[derive(Clone, Copy)]
+// A source that is no gate: up to 1,000 parts, each of which brings one unit in any window of at least a tick, seen as their number.
+#[derive(Drop)]
 pub struct Even {
     parts: u32,
     ghost few: { parts ≤ 1000 },
 }
 
+impl Model for Even {
+    ghost use Rattle.gate_tests.specs.Stores.{FewParts};
+
+    ghost Value = { FewParts };
+
+    ghost view = { λ e. record { parts = e.parts; few = e.few } };
+}
+
 impl Even {
     // That many parts, or None above 1,000.
     pub fn new(parts: u32) -> Option<Even>
-        ensures { MatchOption result (1000 < parts) (λ e. (parts ≤ 1000) × (e.parts ≡ parts)) }
+        ensures none { IsNone result ↔ (1000 < parts) }
+        ensures some { IfSome result (λ even. even.parts ≡ parts) }
     {
         // tried as `then`: the prover does not find the fact in the type for a value that a closure makes
         if parts > MOST_PARTS {
@@ -146,13 +163,11 @@ impl Even {
 }
 
 impl Source for Even {
-    ghost parts = { λ s. s.parts };
-
-    ghost demanded = { λ s. alike s.parts };
+    ghost work = { λ s. record { parts = s.parts; demand = alike s.parts } };
 
     ghost allowed = { λ s. alike s.parts };
 
-    ghost sound = { first_of (Prim.search rules, Prim.grind (arith, Self.row.coded.inj)) };
+    ghost sound = { λ s. alike_sound s.parts s.few };
 
     fn count(&self) -> u32 {
         self.parts
