@@ -10,14 +10,14 @@ use Rattle.words.specs.Split.{Cut}
 use Rattle.lines.specs.Rows.{at, written, Sayable}
 use Rattle.calls.specs.declared.Call.TheVariants.{Offer}
 use Rattle.transcript.specs.Calls as calls
-use Rattle.figures.specs.Plans.{bank, task_limits}
+use Rattle.figures.specs.Plans.{bank, tasks}
 
 pub record Premises : Type 0 where
   -- deadlines raised, as in the law that an accepted plan stays accepted
-  pub raised : Raised 2 (task_limits 15) (task_limits 20)
+  pub raised : Raised (tasks 15) (tasks 20)
   -- a plan that cannot be judged: one with no task, and one over 17 parts
-  pub no_task : Judged bank 2 [] 0 [] NotJudgeable []
-  pub many_parts : Judged bank 17 (task_limits 15) 2 [] NotJudgeable []
+  pub no_task : Judged bank [] NotJudgeable []
+  pub many_parts : Judged (record bank { parts = 17 }) (tasks 15) NotJudgeable []
   -- period 10 and jitter 2: offers 8 ticks apart have arrival times, offers 7 ticks apart have none
   pub explained : Explained 10 2 (2 ∷ 10 ∷ [])
   pub unexplained : Explained 10 2 (2 ∷ 9 ∷ []) → ⊥

@@ -2,9 +2,9 @@
 -- two paced parts, and the offers to one of them.
 use Rattle.std.specs.Prelude.{◌≡◌, ℕ, zero, suc, true, false, List, [], ◌∷◌}
 use Rattle.source.specs.Facts.{offerable}
+use Rattle.source.specs.Rows.{allowed_one}
 use Rattle.paced.specs.Makes.{fresh}
-use Rattle.paced.specs.Pace.{demand, given, later}
-use Rattle.paced.specs.Tables.{allowances_of, only}
+use Rattle.paced.specs.Pace.{demand, given, later, paced}
 use Rattle.paced.specs.declared.row.Row.{Row}
 use Rattle.schedule.specs.Phases.{demand_of}
 use Rattle.schedule.specs.declared.slot.Slot.{Slot}
@@ -17,13 +17,13 @@ early = record { offset = 0; length = 3 } ∷ record { offset = 5; length = 2 } 
 abbrev pub late : List Slot
 late = record { offset = 0; length = 3 } ∷ record { offset = 10; length = 2 } ∷ []
 
--- period 10, jitter 2, cost 1
+-- a part at its start: period 10, jitter 2, cost 1
 abbrev pub jittery : Row
-jittery = fresh 10 2 (1 ∷ [])
+jittery = fresh (record { period = 10; jitter = 2; costs = 1 ∷ [] })
 
 -- period 5, no jitter, costs 4 1 1 3 in turn
 abbrev pub uneven : Row
-uneven = fresh 5 0 (4 ∷ 1 ∷ 1 ∷ 3 ∷ [])
+uneven = fresh (record { period = 5; jitter = 0; costs = 4 ∷ 1 ∷ 1 ∷ 3 ∷ [] })
 
 -- a row n ticks later
 abbrev pub waited : ℕ → Row → Row
@@ -31,12 +31,12 @@ waited zero r = r
 waited (suc n) r = waited n (later r)
 
 pub record Figures : Type 0 where
-  pub early_5 : demand_of 12 2 early 5 ≡ 3
-  pub early_6 : demand_of 12 2 early 6 ≡ 5
-  pub early_12 : demand_of 12 2 early 12 ≡ 5
-  pub early_13 : demand_of 12 2 early 13 ≡ 8
-  pub late_2 : demand_of 12 2 late 2 ≡ 3
-  pub late_3 : demand_of 12 2 late 3 ≡ 5
+  pub early_5 : demand_of 12 early 5 ≡ 3
+  pub early_6 : demand_of 12 early 6 ≡ 5
+  pub early_12 : demand_of 12 early 12 ≡ 5
+  pub early_13 : demand_of 12 early 13 ≡ 8
+  pub late_2 : demand_of 12 late 2 ≡ 3
+  pub late_3 : demand_of 12 late 3 ≡ 5
   pub jittery_8 : demand jittery 8 ≡ 1
   pub jittery_9 : demand jittery 9 ≡ 2
   pub jittery_18 : demand jittery 18 ≡ 2
@@ -45,6 +45,6 @@ pub record Figures : Type 0 where
   pub uneven_10 : demand uneven 10 ≡ 7
   pub uneven_30 : demand uneven 30 ≡ 16
   -- offered at the start, it refuses after 7 ticks and takes after 8
-  pub at_start : offerable 1 (allowances_of 1 (only jittery)) 1 1 ≡ true
-  pub after_7 : offerable 1 (allowances_of 1 (only (waited 7 (given jittery)))) 1 1 ≡ false
-  pub after_8 : offerable 1 (allowances_of 1 (only (waited 8 (given jittery)))) 1 1 ≡ true
+  pub at_start : offerable 1 (allowed_one paced jittery) 1 1 ≡ true
+  pub after_7 : offerable 1 (allowed_one paced (waited 7 (given jittery))) 1 1 ≡ false
+  pub after_8 : offerable 1 (allowed_one paced (waited 8 (given jittery))) 1 1 ≡ true

@@ -1,14 +1,23 @@
-use Rattle.std.proofs.Common.{ℕ, zero, suc, ◌+◌, ◌*◌, ◌<◌, ◌≤◌, ◌≢◌, ◌⊎◌, [], ◌∷◌, get_or, refl, inl, inr, arith, lit≤}
+use Rattle.std.proofs.Common.{◌≡◌, ℕ, zero, suc, ◌+◌, ◌*◌, ◌<◌, ◌≤◌, ◌≢◌, ◌⊎◌, [], ◌∷◌, get_or, refl, inl, inr, arith, lit≤}
 use Rattle.std.specs.Fmt.{digits}
 use Rattle.arrivals.specs.Times.{Explains, Explained}
 use Rattle.plan.specs.Judged.{Raised}
-use Rattle.figures.specs.Plans.{task_limits}
+use Rattle.plan.specs.Tasks.{task_at}
+use Rattle.figures.specs.Plans.{tasks}
 use Rattle.figures.proofs.premises.premises_hold.Goals as goal
 
-raised : Raised 2 (task_limits 15) (task_limits 20)
-raised zero h = (refl, lit≤ tt)
-raised (suc zero) h = (refl, lit≤ tt)
-raised (suc (suc i)) h = absurd (omega arith)
+raised : Raised (tasks 15) (tasks 20)
+raised = record { rows = refl; blockings = blockings; deadlines = deadlines }
+  where
+    blockings : (i : ℕ) → i < 2 → (task_at (tasks 20) i).limit.blocking ≡ (task_at (tasks 15) i).limit.blocking
+    blockings zero h = refl
+    blockings (suc zero) h = refl
+    blockings (suc (suc i)) h = refl
+
+    deadlines : (i : ℕ) → i < 2 → (task_at (tasks 15) i).limit.deadline ≤ (task_at (tasks 20) i).limit.deadline
+    deadlines zero h = lit≤ tt
+    deadlines (suc zero) h = lit≤ tt
+    deadlines (suc (suc i)) h = absurd (omega arith)
 
 -- arrivals at the times 0 and 10
 abbrev times : ℕ → ℕ
