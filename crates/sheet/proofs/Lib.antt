@@ -1,4 +1,3 @@
-pub mod Answering
 pub mod Keeping
 pub mod Lining
 pub mod Telling

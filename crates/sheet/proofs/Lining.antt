@@ -1,11 +1,12 @@
 -- A sheet line by line.
 use Rattle.std.proofs.Common.{◌≡◌, ℕ, ◌+◌, ◌≤◌, eqb, leb, List, [], ◌∷◌, length, Some, None, Err, Option, Result, sym, refl, ap, ◌∙◌, subst, arith}
 use Rattle.std.proofs.lemmas.Bool.{le-leb, ne_eqb, cond-true, cond-false}
+use Rattle.refusal.specs.Refusals.{plain}
 use Rattle.refusal.specs.declared.Refusal.{Refusal}
 use Rattle.refusal.specs.declared.Fault.TheVariants.{SheetTooLong, ForeignByte}
 use Rattle.words.specs.Split.{before, onward, pieces, following, joined}
 use Rattle.words.proofs.Cutting.{pieces_first, only_cut}
-use Rattle.sheet.specs.Drafts.{Plan, plain}
+use Rattle.sheet.specs.Drafts.{Plan}
 use Rattle.sheet.specs.Reading.{on_line, step, ended, and_then, read_on, read}
 
 pub short_enough : (sheet : List ℕ) → length sheet ≤ 16384 → read sheet ≡ read_on 0 None (pieces 10 sheet)

@@ -2,4 +2,3 @@ pub mod Drafts
 pub mod Marking
 pub mod Reading
 pub mod Rowing
-pub mod Views

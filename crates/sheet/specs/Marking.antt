@@ -1,73 +1,76 @@
 -- The listing of a sheet: what the judge says of its plan, or why it is refused.
-use Rattle.std.specs.Prelude.{◌≡◌, ℕ, ◌+◌, ◌-◌, ◌<◌, cond, List, ◌++◌, Ok, Err, Result, nat_lt, slice_index}
-use Rattle.cycles.specs.Round.{sum}
+use Rattle.std.specs.Prelude.{◌≡◌, ℕ, ◌+◌, ◌-◌, cond, List, ◌++◌, Ok, Err, Result, length, nat_lt, slice_index}
 use Rattle.loads.specs.Share.{load_of}
+use Rattle.refusal.specs.Refusals.{plain}
 use Rattle.refusal.specs.declared.Fault.TheVariants as faults
 use Rattle.refusal.specs.declared.Refusal.{Refusal}
-use Rattle.source.specs.Facts.{single}
-use Rattle.source.specs.Sides.{both, beside}
+use Rattle.source.specs.Facts.{Work}
+use Rattle.source.specs.Rows.{work_one}
+use Rattle.source.specs.Sides.{both}
 use Rattle.paced.specs.Loads.{row_load}
-use Rattle.paced.specs.Tables.{row_at, demands_of}
-use Rattle.schedule.specs.Phases.{length_of, demand_of}
+use Rattle.paced.specs.Tables.{row_at, work_in}
+use Rattle.paced.specs.declared.row.Row.{Row}
+use Rattle.schedule.specs.Phases.{Timetable, total_length, timetables}
 use Rattle.plan.specs.Judged.{Judged}
-use Rattle.plan.specs.Limits.{limit_at}
+use Rattle.plan.specs.Tasks.{Task, task_at}
 use Rattle.plan.specs.declared.verdict.Verdict.{Verdict}
 use Rattle.plan.specs.declared.verdict.Verdict.TheVariants.{Accepted, NotJudgeable, Late}
 use Rattle.listing.specs.Texts.{accepted_line, part_line, task_line, numbered, refusal_text}
 use Rattle.listing.specs.declared.marks.TaskMark.{TaskMark}
-use Rattle.sheet.specs.Drafts.{Plan, plain}
-use Rattle.sheet.specs.Reading.{Sheet, read}
+use Rattle.sheet.specs.Drafts.{Plan}
+use Rattle.sheet.specs.Reading.{Sheet, on_line, read}
 
 -- the bank of a sheet: its interrupts beside its schedule
-abbrev pub bank_parts : Plan → ℕ
-bank_parts p = both p.irqs 1
-
-abbrev pub bank_demand : Plan → ℕ → ℕ → ℕ
-bank_demand p = beside p.irqs (demands_of p.irqs (row_at p.irq_rows)) (single (demand_of p.cycle p.pairs p.slots))
-
--- the verdict and the bounds are those of the judge
-abbrev pub JudgedPlan : Plan → Verdict → List ℕ → Type 0
-JudgedPlan p v bounds = Judged (bank_demand p) (bank_parts p) p.limits p.tasks p.task_rows v bounds
+abbrev pub bank_work : Plan → Work
+bank_work p = both (work_in p.irqs) (work_one timetables p.timetable)
 
 -- the load of the part at place k: the interrupts in their order, then the schedule
-abbrev pub part_load : Plan → ℕ → ℕ
-part_load p k = cond (nat_lt k p.irqs) (row_load (row_at p.irq_rows k)) (load_of (sum (length_of p.slots) p.pairs) p.cycle)
+abbrev pub part_load : List Row → Timetable → ℕ → ℕ
+part_load irqs t k = cond (nat_lt k (length irqs)) (row_load (row_at irqs k)) (load_of (total_length t.pairs) t.cycle)
+
+-- what is told of a task with that bound
+abbrev pub task_mark : Task → ℕ → TaskMark
+task_mark task bound = record { bound = bound; deadline = task.limit.deadline; load = row_load task.row }
 
 -- what is told of the task at place i
-abbrev pub task_mark : Plan → List ℕ → ℕ → TaskMark
-task_mark p bounds i = record { bound = slice_index bounds i; deadline = (limit_at p.limits i).deadline; load = row_load (row_at p.task_rows i) }
+abbrev pub mark_at : List Task → List ℕ → ℕ → TaskMark
+mark_at tasks bounds i = task_mark (task_at tasks i) (slice_index bounds i)
 
 -- the text of an accepted plan: the count of its tasks, then the parts, then the tasks
 abbrev pub accepted_plan : Plan → List ℕ → List ℕ
-accepted_plan p bounds = accepted_line p.tasks ++ (numbered part_line (part_load p) (p.irqs + 1) ++ numbered task_line (task_mark p bounds) p.tasks)
+accepted_plan p bounds =
+    accepted_line (length p.tasks)
+    ++ (numbered part_line (part_load p.irqs p.timetable) (length p.irqs + 1)
+    ++ numbered task_line (mark_at p.tasks bounds) (length p.tasks))
 
--- the refusal of a plan for its task i, with the line of that task: the tasks stand on the last lines of the sheet
-abbrev pub late : Sheet → ℕ → Refusal
-late s i = record { fault = faults.NoWindow; line = s.lines - (s.plan.tasks - i); task = i }
+-- the line of task i of so many, on a sheet of so many lines: the tasks stand on the last ones
+abbrev pub line_of : ℕ → ℕ → ℕ → ℕ
+line_of lines tasks i = lines - (tasks - i)
 
--- the text for a verdict
-abbrev pub verdict_text : Sheet → Verdict → List ℕ → List ℕ
-verdict_text s (Accepted n) bounds = accepted_plan s.plan bounds
-verdict_text s NotJudgeable bounds = refusal_text (plain faults.NotJudgeable)
-verdict_text s (Late i) bounds = refusal_text (late s i)
+-- what a verdict comes to, with the line of the task on a refusal
+abbrev pub placed : ℕ → ℕ → Result ℕ Refusal → Result ℕ Refusal
+placed lines tasks (Ok n) = Ok n
+placed lines tasks (Err e) = Err (on_line (line_of lines tasks e.task) e)
 
--- the text is the listing of what was read
+-- the refusal of a plan for its task i of so many, with the line of that task
+abbrev pub late : ℕ → ℕ → ℕ → Refusal
+late lines tasks i = record { fault = faults.NoWindow; line = line_of lines tasks i; task = i }
+
+-- the text for a verdict on the plan of a sheet of so many lines, and for the bounds that go with it
+abbrev pub verdict_text : Plan → ℕ → Verdict → List ℕ → List ℕ
+verdict_text p lines (Accepted n) bounds = accepted_plan p bounds
+verdict_text p lines NotJudgeable bounds = refusal_text (plain faults.NotJudgeable)
+verdict_text p lines (Late i) bounds = refusal_text (late lines (length p.tasks) i)
+
+-- the text is the listing of what was read: of its verdict and its bounds, which are those of the judge
 abbrev pub ListedAs : Result Sheet Refusal → List ℕ → Type 0
 ListedAs (Err e) text = text ≡ refusal_text e
-ListedAs (Ok s) text = (v : Verdict) × (bounds : List ℕ) × JudgedPlan s.plan v bounds × (text ≡ verdict_text s v bounds)
+ListedAs (Ok s) text =
+    (v : Verdict) × (bounds : List ℕ) × Judged (bank_work s.plan) s.plan.tasks v bounds × (text ≡ verdict_text s.plan s.lines v bounds)
 
 -- the text is the listing of the sheet
 abbrev pub Listed : List ℕ → List ℕ → Type 0
 Listed sheet text = ListedAs (read sheet) text
-
--- what the judge answers for a sheet: the bounds of its tasks, or the refusal with its line
-abbrev pub Answered : Sheet → Verdict → List ℕ → Result (List ℕ) Refusal → Type 0
-Answered s (Accepted n) bounds (Ok list) = (i : ℕ) → i < s.plan.tasks → slice_index list i ≡ slice_index bounds i
-Answered s (Accepted n) bounds (Err e) = ⊥
-Answered s NotJudgeable bounds (Ok list) = ⊥
-Answered s NotJudgeable bounds (Err e) = e ≡ plain faults.NotJudgeable
-Answered s (Late i) bounds (Ok list) = ⊥
-Answered s (Late i) bounds (Err e) = e ≡ late s i
 
 -- a sheet has only one listing
 abbrev pub OnlyListed : List ℕ → Type 0

@@ -1,12 +1,13 @@
 -- The meaning of a sheet: the plan that its lines make, or the refusal of the first faulty line.
 use Rattle.std.specs.Prelude.{ℕ, ◌+◌, cond, List, [], ◌∷◌, length, Some, None, Ok, Err, Option, Result, ◌==◌, nat_le}
+use Rattle.refusal.specs.Refusals.{plain}
 use Rattle.refusal.specs.Table.{told}
 use Rattle.refusal.specs.declared.Fault.{Fault}
 use Rattle.refusal.specs.declared.Fault.TheVariants.{SheetTooLong, ForeignByte, BadLine}
 use Rattle.refusal.specs.declared.Refusal.{Refusal}
 use Rattle.words.specs.Split.{pieces}
 use Rattle.lines.specs.Rows.{Said, read_line}
-use Rattle.sheet.specs.Drafts.{Plan, plain, begin_with, go_on_with}
+use Rattle.sheet.specs.Drafts.{Plan, begin_with, go_on_with}
 
 -- the refusal, now with its line
 abbrev pub on_line : ℕ → Refusal → Refusal

@@ -1,5 +1,6 @@
 // The listing of a sheet.
-ghost use Rattle.std.specs.Prelude.{◌≡◌, ℕ, ◌<◌, ◌≤◌, List, ◌++◌, length, drop, MatchResult, OnOk};
+ghost use Rattle.std.specs.Prelude.{◌≡◌, ◌≤◌, length, take, drop, Some, None, IfOk, OnOk, OnErr, nat_lt, if◌then◌else◌};
+ghost use Rattle.std.specs.Result.{result_err};
 ghost use Rattle.words.specs.Split.{OnlyCut};
 ghost use Rattle.listing.specs.Listings.{listing_text, too_short};
 ghost use Rattle.sheet.specs.Marking.{Listed, OnlyListed};
@@ -21,7 +22,11 @@ fn listing_of(sheet: &[u8]) -> Listing
 // Writes the listing of a sheet at the start of a buffer, and says how many bytes it has; the rest of the buffer stays as it
 // was. A buffer of less than 2,048 bytes is refused before the sheet is read, and stays as it was.
 pub fn list(sheet: &[u8], buffer: &mut [u8]) -> Result<usize, Refusal>
-    ensures listed { MatchResult result (λ n. (2048 ≤ length buffer.old) × ((text : List ℕ) × Listed sheet.now text × (n ≡ length text) × (buffer.new ≡ text ++ drop n buffer.old))) (λ e. (e ≡ too_short) × (length buffer.old < 2048) × (buffer.new ≡ buffer.old)) }
+    ensures answer { result_err result ≡ (if nat_lt (length buffer.old) 2048 then Some too_short else None) }
+    ensures listed { IfOk result (λ n. Listed sheet.now (take n buffer.new)) }
+    ensures room { IfOk result (λ n. n ≤ length buffer.new) }
+    ensures rest { IfOk result (λ n. drop n buffer.new ≡ drop n buffer.old) }
+    ensures refused { OnErr result (buffer.new ≡ buffer.old) }
     ensures only { OnOk result (OnlyListed sheet.now) }
     ensures lines { OnOk result (OnlyCut 10 sheet.now) }
 {

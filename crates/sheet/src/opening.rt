@@ -1,9 +1,10 @@
 // A plan from a sheet.
-ghost use Rattle.std.specs.Prelude.{◌≡◌, Ok, Err, MatchResult};
+ghost use Rattle.std.specs.Prelude.{◌≡◌, Ok, IfOk, OnErr};
+ghost use Rattle.std.specs.Result.{result_err};
+ghost use Rattle.sheet.specs.Drafts.{plan_view};
 ghost use Rattle.sheet.specs.Reading.{read as reading};
-ghost use Rattle.sheet.specs.Views.{plan_view};
 
-use crate::reading::read;
+use crate::reading::{Finished, read};
 use paced::rack::Rack;
 use plan::stages::OpenPlan;
 use refusal::Refusal;
@@ -13,10 +14,11 @@ use source::pair::Pair;
 // Reads a sheet into a plan that the caller lends, and says how many lines the sheet has. The bank is the interrupts beside
 // the schedule. A sheet that is refused leaves the plan as it is.
 pub fn read_plan(sheet: &[u8], plan: &mut OpenPlan<Pair<Rack, Schedule>>) -> Result<u32, Refusal>
-    ensures { MatchResult result (λ lines. reading sheet.now ≡ Ok (record { plan = plan_view plan.exit.now; lines = lines })) (λ e. (reading sheet.now ≡ Err e) × (plan.exit.now ≡ plan.entry.now)) }
+    ensures answer { result_err result ≡ result_err (reading sheet.now) }
+    ensures read { IfOk result (λ lines. reading sheet.now ≡ Ok (record { plan = plan_view plan.new; lines = lines })) }
+    ensures refused { OnErr result (plan.new ≡ plan.old) }
 {
-    let finished = read(sheet)?;
-    let draft = finished.draft;
-    *plan = OpenPlan::with_tasks(Pair::new(draft.rack, draft.schedule), draft.tasks);
-    Ok(finished.lines)
+    let Finished { draft, lines } = read(sheet)?;
+    *plan = draft.into_plan();
+    Ok(lines)
 }
