@@ -1,7 +1,7 @@
 // A run of a judged plan: its calls, what each answers and changes, and when it is refused.
 #![tactic(auto)]
 
-ghost use Rattle.std.specs.Prelude.{◌≡◌, ℕ, ◌<◌, ◌≤◌, length, Some, is_some, MatchResult, IfOk, OnOk, OnErr};
+ghost use Rattle.std.specs.Prelude.{◌≡◌, ℕ, ◌<◌, ◌≤◌, length, None, Some, is_some, MatchResult, IfOk, OnOk, OnErr};
 ghost use Rattle.std.specs.Option.{ForSome};
 ghost use Rattle.std.specs.Result.{result_err, result_ok};
 ghost use Rattle.source.specs.Facts.{Taken, Ticked};
@@ -9,14 +9,14 @@ ghost use Rattle.plan.specs.Plans.{ByJudge};
 ghost use Rattle.run.specs.Faults.{range_fault, tick_fault, named_fault, offer_fault, release_fault, hold_fault, let_go_fault, end_fault, grantable};
 ghost use Rattle.run.specs.Faults.{offer_refusal, release_refusal, hold_refusal, let_go_refusal, end_refusal, tick_refusal};
 ghost use Rattle.run.specs.States.{hold_of};
-ghost use Rattle.run.specs.Runs.{Offered, Started, TickPassed, due_in, is_accepted, run_ended, run_granted, run_let_go, run_released, started, tasks_allowed, tasks_work};
+ghost use Rattle.run.specs.Runs.{Offered, Started, TickPassed, due_in, is_accepted, parts_of, run_ended, run_granted, run_let_go, run_released, started, tasks_allowed, tasks_work};
 
 mod driving;
 pub mod state;
 mod steps;
 
-use crate::driving::give;
-use crate::state::{MOST_BACKLOG, PLACES, State};
+use crate::driving::{give, tick_both};
+use crate::state::{MOST_BACKLOG, State};
 use calls::Got;
 use paced::table::Table;
 use plan::stages::JudgedPlan;
@@ -33,6 +33,24 @@ struct Terms {
     limits: [Limit; 16],
     bounds: [u32; 16],
     parts: Option<u32>,
+}
+
+impl Terms {
+    // The terms of a run of a plan with that bank, verdict, bounds and limits. The bank of an accepted plan has at most 16 parts, so there
+    // is a place for each.
+    fn new<S: Source>(bank: &S, verdict: Verdict, bounds: [u32; 16], limits: [Limit; 16]) -> Terms
+        ensures parts { result.parts ≡ parts_of (S.work bank.now) verdict }
+        ensures bounds { result.bounds ≡ bounds }
+        ensures limits { result.limits ≡ limits }
+    {
+        let accepted = is_accepted(verdict);
+        let parts = accepted.then(|| bank.count());
+        Terms {
+            limits,
+            bounds,
+            parts,
+        }
+    }
 }
 
 // A run: the bank, the paced parts of the tasks, the state, and what is fixed from the start. A running table is not at rest, so table and
@@ -74,21 +92,14 @@ fn check_range(number: u64, most: u64, fault: Fault) -> Result<(), Fault>
 }
 
 impl<G: Gate> Run<G> {
-    // Starts a run of a judged plan and uses the plan up: with no backlog, no job and no hold. The bank of an accepted plan
-    // has at most 16 parts, so all of them count.
+    // Starts a run of a judged plan and uses the plan up: with no backlog, no job and no hold.
     pub fn start(judged: JudgedPlan<G>) -> Run<G>
         ensures started { result ≡ started G.work judged }
         ensures by_judge { ByJudge G.work judged }
     {
         let plan = judged.into_parts();
-        let accepted = is_accepted(plan.verdict);
-        let parts = accepted.then(|| plan.bank.count().min(PLACES));
         let (table, limits) = plan.tasks.into_parts();
-        let terms = Terms {
-            limits,
-            bounds: plan.bounds,
-            parts,
-        };
+        let terms = Terms::new(&plan.bank, plan.verdict, plan.bounds, limits);
         Run {
             bank: plan.bank,
             table,
@@ -221,6 +232,47 @@ impl<G: Gate> Run<G> {
     }
 }
 
+// What an offer, a release and a tick change where they are not refused: each asks for what its call below has looked for.
+impl<G: Gate> Run<G> {
+    // The backlog of a part grows, and the bank takes the units.
+    fn take_offer(&mut self, part: u32, units: u64)
+        requires { offer_fault G.allowed self.old part units ≡ None }
+        ensures offered { Offered G.moves part units self.old self.new }
+        ensures taken { Taken (G.allowed self.old.bank) part units (G.allowed self.new.bank) }
+        ensures kept { G.work self.new.bank ≡ G.work self.old.bank }
+    {
+        self.state.grow(part, units);
+        give(&mut self.bank, part, units);
+    }
+
+    // A job of a task is pending, and its paced part takes the units.
+    fn take_release(&mut self, task: u32, units: u64)
+        requires { release_fault self.old task units ≡ None }
+        ensures released { self.new ≡ run_released self.old task units }
+        ensures taken { Taken (tasks_allowed self.old) task units (tasks_allowed self.new) }
+        ensures kept { tasks_work self.new ≡ tasks_work self.old }
+    {
+        give(&mut self.table, task, units);
+        self.state.release(task, units);
+    }
+
+    // The one who is due gets the unit, and bank and tasks tick.
+    fn pass(&mut self, parts: u32) -> Got
+        requires { self.old.parts ≡ Some parts }
+        ensures got { result ≡ due_in self.old }
+        ensures passed { TickPassed G.moves self.old self.new }
+        ensures ticked { Ticked (G.allowed self.old.bank) (G.allowed self.new.bank) }
+        ensures kept { G.work self.new.bank ≡ G.work self.old.bank }
+        ensures tasks_ticked { Ticked (tasks_allowed self.old) (tasks_allowed self.new) }
+        ensures tasks_kept { tasks_work self.new ≡ tasks_work self.old }
+    {
+        let got = self.state.due(parts, self.task_count());
+        self.state.pass(got);
+        tick_both(&mut self.bank, &mut self.table);
+        got
+    }
+}
+
 // A number and its units are two values, as a call has them.
 impl<G: Gate> Run<G> {
     // Offers units to a part of the bank. Refused are, the first that applies: a run of a plan that is not accepted; a
@@ -234,8 +286,7 @@ impl<G: Gate> Run<G> {
         ensures kept { G.work self.new.bank ≡ G.work self.old.bank }
     {
         self.check_offer(part, units)?;
-        self.state.grow(part, units);
-        give(&mut self.bank, part, units);
+        self.take_offer(part, units);
         Ok(())
     }
 
@@ -251,8 +302,7 @@ impl<G: Gate> Run<G> {
         // the closure is said in each call, where the task is at hand
         self.check_release(task, units)
             .map_err(|fault| Refusal::new(fault, 0, task))?;
-        give(&mut self.table, task, units);
-        self.state.release(task, units);
+        self.take_release(task, units);
         Ok(())
     }
 
@@ -309,10 +359,6 @@ impl<G: Gate> Run<G> {
         ensures tasks_kept { tasks_work self.new ≡ tasks_work self.old }
     {
         let parts = self.parts()?;
-        let got = self.state.due(parts, self.task_count());
-        self.state.pass(got);
-        self.bank.tick();
-        self.table.tick();
-        Ok(got)
+        Ok(self.pass(parts))
     }
 }

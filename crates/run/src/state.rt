@@ -3,9 +3,6 @@
 ghost use Rattle.std.specs.Prelude.{◌≡◌};
 ghost use Rattle.run.specs.Steps.{older};
 
-// How many places there are for parts, and for tasks: as many parts as a plan is judged with, and as many tasks as it takes.
-pub const PLACES: u32 = 16;
-
 // The most units that may wait in all backlogs together.
 pub const MOST_BACKLOG: u64 = 1_000_000;
 
@@ -37,8 +34,9 @@ pub struct Hold {
     pub units: u64,
 }
 
-// The backlog of each part and the job of each task, by place from 0, in fixed memory as the project wants it; and the hold, if
-// a task holds the processor. What a state keeps to stands at the run.
+// The backlog of each part and the job of each task, by place from 0, in fixed memory as the project wants it: 16 places, as many parts as
+// a plan is judged with, and as many tasks as it takes. And the hold, if a task holds the processor. What a state keeps to stands at the
+// run.
 #[derive(Clone, Copy, Default)]
 pub struct State {
     pub backlogs: [u64; 16],

@@ -1,26 +1,23 @@
-use Rattle.std.proofs.Common.{◌≡◌, None, ap, ◌∙◌, rules}
+use Rattle.std.proofs.Common.{ap, ◌∙◌}
 use Rattle.run.specs.Faults.{release_fault}
 use Rattle.run.specs.Runs.{run_released}
 use Rattle.run.proofs.Calls.{after_release, release_facts, release_seen, release_taken}
-use Rattle.run.proofs.Run.release.Goals as goal
+use Rattle.run.proofs.Run.take_release.Goals as goal
 
 pub give-requires : goal.give-requires
 give-requires g c =
     let s = c.self.inside in
-    let clean : release_fault c.args.self.now c.args.task c.args.units ≡ None = search rules in
-    release_taken g.G.Source.work s.bank s.table s.terms.limits s.room s.terms.bounds s.terms.parts s.state c.args.task c.args.units (ap (λ r. release_fault r c.args.task c.args.units) c.self.view_is ∙ clean)
+    release_taken g.G.Source.work s.bank s.table s.terms.limits s.room s.terms.bounds s.terms.parts s.state c.args.task c.args.units (ap (λ r. release_fault r c.args.task c.args.units) c.self.view_is ∙ c.requires)
 
 pub invariant_of-self : goal.invariant_of-self
 invariant_of-self g c =
     let s = c.self.inside in
-    let clean : release_fault c.args.self.now c.args.task c.args.units ≡ None = search rules in
-    after_release g.G.Source.work s.bank s.table s.terms.limits s.room s.terms.bounds s.terms.parts s.state c.self.invariant c.args.task c.args.units c.give.new.gate (ap (λ r. release_fault r c.args.task c.args.units) c.self.view_is ∙ clean) c.give.ensures.takes c.release.new.self c.release.ensures
+    after_release g.G.Source.work s.bank s.table s.terms.limits s.room s.terms.bounds s.terms.parts s.state c.self.invariant c.args.task c.args.units c.give.new.gate (ap (λ r. release_fault r c.args.task c.args.units) c.self.view_is ∙ c.requires) c.give.ensures.takes c.release.new.self c.release.ensures
 
 pub returns-clause-released : goal.returns-clause-released
 returns-clause-released g c =
     let s = c.self.inside in
-    let clean : release_fault c.args.self.now c.args.task c.args.units ≡ None = search rules in
-    release_seen g.G.Source.work s.bank s.table s.terms.limits s.room s.terms.bounds s.terms.parts s.state c.args.task c.args.units c.give.new.gate (ap (λ r. release_fault r c.args.task c.args.units) c.self.view_is ∙ clean) c.give.ensures.takes c.release.new.self c.release.ensures
+    release_seen g.G.Source.work s.bank s.table s.terms.limits s.room s.terms.bounds s.terms.parts s.state c.args.task c.args.units c.give.new.gate (ap (λ r. release_fault r c.args.task c.args.units) c.self.view_is ∙ c.requires) c.give.ensures.takes c.release.new.self c.release.ensures
     ∙ ap (λ r. run_released r c.args.task c.args.units) c.self.view_is
 
 pub returns-clause-taken : goal.returns-clause-taken
