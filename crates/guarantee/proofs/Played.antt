@@ -1,5 +1,5 @@
 -- Calls that are made one after another by a loop.
-use Rattle.std.proofs.Common.{◌≡◌, ℕ, zero, suc, ◌+◌, ◌<◌, ◌≤◌, min, List, [], ◌∷◌, length, get_or, take, set, Some, None, Option, MatchOption, sym, refl, ap, ◌∙◌, subst, add-one, arith}
+use Rattle.std.proofs.Common.{◌≡◌, ℕ, zero, suc, ◌+◌, ◌-◌, ◌<◌, ◌≤◌, min, List, [], ◌∷◌, length, map, get_or, take, set, Some, None, Option, MatchOption, sym, refl, ap, ◌∙◌, subst, add-one, arith}
 use Rattle.refusal.specs.declared.Refusal.{Refusal}
 use Rattle.calls.specs.declared.Answer.{Answer}
 use Rattle.calls.specs.declared.Answer.TheVariants.{Refused}
@@ -7,7 +7,8 @@ use Rattle.calls.specs.declared.Call.{Call}
 use Rattle.calls.specs.declared.Call.TheVariants.{Offer, Release, Hold, LetGo, End, Tick}
 use Rattle.run.specs.Faults.{offer_refusal, release_refusal, hold_refusal, let_go_refusal, end_refusal, tick_refusal}
 use Rattle.source.specs.Facts.{Moves}
-use Rattle.run.specs.Runs.{Now}
+use Rattle.run.specs.Runs.{Now, rested}
+use Rattle.run.proofs.Held.{rested_given, rested_later}
 use Rattle.guarantee.specs.Playing.{Did, Played}
 
 module _ {S : Type 0} (allowed : S → ℕ → ℕ → ℕ) (moves : Moves S) where
@@ -30,25 +31,26 @@ module _ {S : Type 0} (allowed : S → ℕ → ℕ → ℕ) (moves : Moves S) wh
   played_whole (c ∷ calls) (a ∷ as') zero s t h p = absurd (omega arith)
   played_whole (c ∷ calls) (a ∷ as') (suc k) s t h (m, first, p) = (m, first, played_whole calls as' k m t (omega arith) p)
 
-  -- bounds, and how many parts there are, stay as they are
+  -- bounds, how many parts there are, and the tasks but for their levels and places stay as they are
   pub record Fixed (r r' : Now S) : Type 0 where
     pub bounds : r'.bounds ≡ r.bounds
     pub parts : r'.parts ≡ r.parts
+    pub tasks : map rested r'.tasks ≡ map rested r.tasks
 
   fixed_same : (r r' : Now S) → r' ≡ r → Fixed r r'
-  fixed_same r r' e = record { bounds = ap (λ x. x.bounds) e; parts = ap (λ x. x.parts) e }
+  fixed_same r r' e = record { bounds = ap (λ x. x.bounds) e; parts = ap (λ x. x.parts) e; tasks = ap (λ x. map rested x.tasks) e }
 
   by_refusal : (o : Option Refusal) (a : Answer) (r r' : Now S) {P : Type 0} → MatchOption o P (λ e. (a ≡ Refused e) × (r' ≡ r)) → (P → Fixed r r') → Fixed r r'
   by_refusal None a r r' x done = done x
   by_refusal (Some e) a r r' x done = fixed_same r r' x.1
 
   did_fixed : (c : Call) (a : Answer) (r r' : Now S) → Did allowed moves c a r r' → Fixed r r'
-  did_fixed (Offer k u) a r r' did = by_refusal (offer_refusal allowed r k u) a r r' did (λ x. record { bounds = ap (λ y. y.bounds) x.1.rest; parts = ap (λ y. y.parts) x.1.rest })
-  did_fixed (Release i u) a r r' did = by_refusal (release_refusal r i u) a r r' did (λ x. record { bounds = ap (λ y. y.bounds) x.1; parts = ap (λ y. y.parts) x.1 })
-  did_fixed (Hold i u) a r r' did = by_refusal (hold_refusal r i u) a r r' did (λ x. record { bounds = ap (λ y. y.bounds) x.1; parts = ap (λ y. y.parts) x.1 })
-  did_fixed (LetGo i) a r r' did = by_refusal (let_go_refusal r i) a r r' did (λ x. record { bounds = ap (λ y. y.bounds) x.1; parts = ap (λ y. y.parts) x.1 })
-  did_fixed (End i) a r r' did = by_refusal (end_refusal r i) a r r' did (λ x. record { bounds = ap (λ y. y.bounds) x.1; parts = ap (λ y. y.parts) x.1 })
-  did_fixed Tick a r r' did = by_refusal (tick_refusal r) a r r' did (λ x. record { bounds = ap (λ y. y.bounds) x.1.rest; parts = ap (λ y. y.parts) x.1.rest })
+  did_fixed (Offer k u) a r r' did = by_refusal (offer_refusal allowed r k u) a r r' did (λ x. record { bounds = ap (λ y. y.bounds) x.1.rest; parts = ap (λ y. y.parts) x.1.rest; tasks = ap (λ y. map rested y.tasks) x.1.rest })
+  did_fixed (Release i u) a r r' did = by_refusal (release_refusal r i u) a r r' did (λ x. record { bounds = ap (λ y. y.bounds) x.1; parts = ap (λ y. y.parts) x.1; tasks = ap (λ y. map rested y.tasks) x.1 ∙ rested_given r.tasks (i - 1) })
+  did_fixed (Hold i u) a r r' did = by_refusal (hold_refusal r i u) a r r' did (λ x. record { bounds = ap (λ y. y.bounds) x.1; parts = ap (λ y. y.parts) x.1; tasks = ap (λ y. map rested y.tasks) x.1 })
+  did_fixed (LetGo i) a r r' did = by_refusal (let_go_refusal r i) a r r' did (λ x. record { bounds = ap (λ y. y.bounds) x.1; parts = ap (λ y. y.parts) x.1; tasks = ap (λ y. map rested y.tasks) x.1 })
+  did_fixed (End i) a r r' did = by_refusal (end_refusal r i) a r r' did (λ x. record { bounds = ap (λ y. y.bounds) x.1; parts = ap (λ y. y.parts) x.1; tasks = ap (λ y. map rested y.tasks) x.1 })
+  did_fixed Tick a r r' did = by_refusal (tick_refusal r) a r r' did (λ x. record { bounds = ap (λ y. y.bounds) x.1.rest; parts = ap (λ y. y.parts) x.1.rest; tasks = ap (λ y. map rested y.tasks) x.1.rest ∙ rested_later r.tasks })
 
   pub played_fixed : (calls : List Call) (as' : List Answer) (r r' : Now S) → Played allowed moves calls as' r r' → Fixed r r'
   played_fixed [] as' r r' p = fixed_same r r' p
@@ -56,4 +58,4 @@ module _ {S : Type 0} (allowed : S → ℕ → ℕ → ℕ) (moves : Moves S) wh
   played_fixed (c ∷ calls) (a ∷ as') r r' (m, first, p) =
       let one = did_fixed c a r m first in
       let more = played_fixed calls as' m r' p in
-      record { bounds = more.bounds ∙ one.bounds; parts = more.parts ∙ one.parts }
+      record { bounds = more.bounds ∙ one.bounds; parts = more.parts ∙ one.parts; tasks = more.tasks ∙ one.tasks }

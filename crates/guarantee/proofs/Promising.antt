@@ -1,5 +1,5 @@
 -- A run of an acceptable plan keeps its promise.
-use Rattle.std.proofs.Common.{◌≡◌, ℕ, ◌+◌, ◌-◌, ◌<◌, ◌≤◌, Bool, true, false, cond, leb, List, length, get_or, replicate, Some, refl, sym, ap, ◌∙◌, subst, inl, inr, rules, arith, ◌↔◌, IsTrue, is_ok}
+use Rattle.std.proofs.Common.{◌≡◌, ℕ, ◌+◌, ◌-◌, ◌<◌, ◌≤◌, Bool, true, false, cond, leb, List, length, map, get_or, replicate, Some, refl, sym, ap, ◌∙◌, subst, inl, inr, rules, arith, ◌↔◌, IsTrue, is_ok}
 use Rattle.std.proofs.lemmas.Bool.{cond-true, le-leb}
 use Rattle.std.proofs.lemmas.List.{length-map}
 use Rattle.cycles.proofs.Tables.{all_same}
@@ -16,7 +16,8 @@ use Rattle.calls.specs.States as model
 use Rattle.calls.specs.declared.Answer.{Answer}
 use Rattle.calls.specs.declared.Call.{Call}
 use Rattle.calls.proofs.Guaranteeing.{guaranteed}
-use Rattle.run.specs.Runs.{Now, is_accepted, parts_of, started}
+use Rattle.run.specs.Runs.{Now, is_accepted, parts_of, rested, started}
+use Rattle.run.proofs.Held.{all_rested}
 use Rattle.run.specs.States.{no_job, hold_of, at_start}
 use Rattle.guarantee.specs.Playing.{Played}
 use Rattle.guarantee.specs.Promise.{Acceptable, Keeps, ModelLeads, Modelled, Promised, begun}
@@ -125,6 +126,9 @@ module _ {S : Type 0} (work : S → Work) (allowed : S → ℕ → ℕ → ℕ) 
   pub parts_told : r.parts ≡ parts_of (work plan.bank) j.verdict
   parts_told = fixed.parts ∙ ap (λ p. parts_of (work p.bank) j.verdict) plan_is
 
+  pub tasks_are : ByJudge work j → map rested r.tasks ≡ plan.tasks
+  tasks_are by_judge = fixed.tasks ∙ all_rested j.plan.tasks by_judge.fitting.rest ∙ ap (λ p. p.tasks) plan_is
+
   pub begun_is : started work j ≡ begun plan r
   begun_is = λ k. record { bank = (plan_is k).bank; tasks = (plan_is k).tasks; bounds = sym fixed.bounds k; parts = sym fixed.parts k; state = at_start }
 
@@ -138,7 +142,7 @@ module _ {S : Type 0} (work : S → Work) (allowed : S → ℕ → ℕ → ℕ) 
     pub plan_kept : Keeps work plan r.bounds (log_of calls as')
     plan_kept =
         subst (λ p. Keeps work p r.bounds (log_of calls as')) plan_is
-        (subst (λ b. Keeps work j.plan b (log_of calls as')) (sym fixed.bounds) (kept work allowed moves sound driven j by_judge ok_judged calls as' r played))
+        (subst (λ b. Keeps work j.plan b (log_of calls as')) (sym fixed.bounds) (promised work allowed moves sound driven j by_judge ok_judged calls as' r played))
 
     pub plan_modelled : Modelled work allowed plan r (log_of calls as')
     plan_modelled =

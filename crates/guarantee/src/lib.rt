@@ -2,12 +2,12 @@
 // more is let in than the demand.
 #![tactic(auto)]
 
-ghost use Rattle.std.specs.Prelude.{◌≡◌, ◌↔◌, IsTrue, Some, drop, length};
+ghost use Rattle.std.specs.Prelude.{◌≡◌, ◌↔◌, IsTrue, Some, drop, length, map};
 ghost use Rattle.plan.specs.Judged.{Judged};
 ghost use Rattle.plan.specs.Plans.{ByJudge};
 ghost use Rattle.plan.specs.declared.verdict.Verdict.{Verdict};
 ghost use Rattle.calls.specs.Events.{log_of};
-ghost use Rattle.run.specs.Runs.{parts_of, started};
+ghost use Rattle.run.specs.Runs.{parts_of, rested, started};
 ghost use Rattle.guarantee.specs.Playing.{Did, Played};
 ghost use Rattle.guarantee.specs.Example.{Example};
 ghost use Rattle.guarantee.specs.Promise.{Acceptable, Keeps, Modelled, Promised, begun};
@@ -62,7 +62,8 @@ pub fn is_promised<G: Gate>(judged: &JudgedPlan<G>) -> bool
 pub fn rehearse<G: Gate>(plan: OpenPlan<G>, calls: &[Call], answers: &mut [Answer]) -> Run<G>
     ensures judged { (v : Verdict) × Judged (G.work plan.bank) plan.tasks v result.bounds × (result.parts ≡ parts_of (G.work plan.bank) v) }
     ensures played { Played G.allowed G.moves calls.now answers.new (begun plan result) result }
-    ensures taken { Acceptable G.work plan → result.parts ≡ Some (G.work plan.bank).parts }
+    ensures parts { Acceptable G.work plan → result.parts ≡ Some (G.work plan.bank).parts }
+    ensures tasks { map rested result.tasks ≡ plan.tasks }
     ensures guaranteed { Acceptable G.work plan → Keeps G.work plan result.bounds (log_of calls.now answers.new) }
     ensures stepped { Acceptable G.work plan → Modelled G.work G.allowed plan result (log_of calls.now answers.new) }
     ensures rest { drop (length calls.now) answers.new ≡ drop (length calls.now) answers.old }

@@ -6,7 +6,7 @@ ghost use Rattle.paced.specs.Makes.{asked};
 ghost use Rattle.plan.specs.Judged.{Judged, Filled, OnlyJudged, StaysAccepted, bounds_told};
 ghost use Rattle.plan.specs.Limits.{task_fault};
 ghost use Rattle.plan.specs.Plans.{ByJudge};
-ghost use Rattle.plan.specs.Tasks.{made};
+ghost use Rattle.plan.specs.Tasks.{Fitting, made};
 
 use crate::judge::Finding;
 use crate::tasks::{Limit, Tasks};
@@ -77,6 +77,14 @@ impl<S> OpenPlan<S> {
         ensures { result ≡ record { bank = bank; tasks = tasks } }
     {
         OpenPlan { bank, tasks }
+    }
+
+    // How many tasks the plan has, and what they keep to.
+    pub fn count(&self) -> u32
+        ensures count { result ≡ length self.now.tasks }
+        ensures fitting { Fitting self.now.tasks }
+    {
+        self.tasks.count()
     }
 
     // One task more, below the others, or a refusal with the number that it would have had.

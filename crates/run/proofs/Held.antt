@@ -91,7 +91,7 @@ held_few work r held = let j = held.started.judged in subst (λ o. ForSome o (λ
 rested_same : (t : Task) → AtRest t.row → rested t ≡ t
 rested_same t rest = λ k. record t { row = record t.row { level = sym rest.level k; place = sym rest.place k } }
 
-all_rested : (tasks : List Task) → All (λ t. AtRest t.row) tasks → map rested tasks ≡ tasks
+pub all_rested : (tasks : List Task) → All (λ t. AtRest t.row) tasks → map rested tasks ≡ tasks
 all_rested [] rest = refl
 all_rested (t ∷ tasks) rest = λ k. rested_same t (All-head (λ (t : Task). AtRest t.row) t tasks rest) k ∷ all_rested tasks (All-tail (λ (t : Task). AtRest t.row) t tasks rest) k
 

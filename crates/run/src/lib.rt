@@ -9,7 +9,7 @@ ghost use Rattle.plan.specs.Plans.{ByJudge};
 ghost use Rattle.run.specs.Faults.{range_fault, tick_fault, named_fault, offer_fault, release_fault, hold_fault, let_go_fault, end_fault, grantable};
 ghost use Rattle.run.specs.Faults.{offer_refusal, release_refusal, hold_refusal, let_go_refusal, end_refusal, tick_refusal};
 ghost use Rattle.run.specs.States.{hold_of};
-ghost use Rattle.run.specs.Runs.{Offered, Started, TickPassed, due_in, is_accepted, parts_of, run_ended, run_granted, run_let_go, run_released, started, tasks_allowed, tasks_work};
+ghost use Rattle.run.specs.Runs.{Held, Offered, TickPassed, due_in, is_accepted, parts_of, run_ended, run_granted, run_let_go, run_released, started, tasks_allowed, tasks_work};
 
 mod driving;
 pub mod state;
@@ -109,10 +109,10 @@ impl<G: Gate> Run<G> {
     }
 
     // Whether the run takes calls: exactly if its plan is accepted. It also tells what the type keeps: that the run was started from a
-    // judged plan.
+    // judged plan, and what its backlogs, jobs and hold keep to.
     pub fn takes_calls(&self) -> bool
         ensures answer { result ≡ is_some self.now.parts }
-        ensures started { Started G.work self.now }
+        ensures held { Held G.work self.now }
     {
         self.terms.parts.is_some()
     }
