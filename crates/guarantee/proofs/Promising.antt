@@ -1,12 +1,12 @@
 -- A run of an acceptable plan keeps its promise.
-use Rattle.std.proofs.Common.{◌≡◌, ℕ, ◌+◌, ◌-◌, ◌<◌, ◌≤◌, Bool, true, false, cond, leb, List, length, map, get_or, replicate, Some, refl, sym, ap, ◌∙◌, subst, inl, inr, rules, arith, ◌↔◌, IsTrue, is_ok}
+use Rattle.std.proofs.Common.{◌≡◌, ℕ, ◌+◌, ◌-◌, ◌<◌, ◌≤◌, Bool, true, false, cond, leb, List, length, map, get_or, replicate, Some, refl, sym, ap, ◌∙◌, subst, inl, inr, arith, ◌↔◌, IsTrue}
 use Rattle.std.proofs.lemmas.Bool.{cond-true, le-leb}
 use Rattle.std.proofs.lemmas.List.{length-map}
 use Rattle.cycles.proofs.Tables.{all_same}
 use Rattle.source.specs.Facts.{Work, Moves, Sound, Driven}
 use Rattle.paced.specs.Pace.{Fit}
 use Rattle.plan.proofs.Sides.{rows_fit}
-use Rattle.plan.specs.Judged.{Bounded, Judged, outcome_of}
+use Rattle.plan.specs.Judged.{Bounded, Judged}
 use Rattle.plan.specs.Plans.{Plan, Judgement, ByJudge}
 use Rattle.plan.specs.Tasks.{task_at, rows_of}
 use Rattle.plan.specs.declared.verdict.Verdict.{Verdict}
@@ -115,43 +115,41 @@ module _ {S : Type 0} (work : S → Work) (allowed : S → ℕ → ℕ → ℕ) 
 pub promised : {S : Type 0} (work : S → Work) (allowed : S → ℕ → ℕ → ℕ) (moves : Moves S) → ((s : S) → Sound (work s) (allowed s)) → Driven work allowed moves → Promised work allowed moves
 promised work allowed moves sound driven j by_judge ok calls answers r played = kept work allowed moves sound driven j by_judge ok calls answers r played
 
--- the run that a list of calls left, as it was at its start
-module _ {S : Type 0} (work : S → Work) (allowed : S → ℕ → ℕ → ℕ) (moves : Moves S) (plan : Plan S) (j : Judgement S) (plan_is : j.plan ≡ plan) (calls : List Call) (as' : List Answer) (r : Now S) (played : Played allowed moves calls as' (started work j) r) where
+-- the run that a list of calls left, which began as s
+module _ {S : Type 0} (work : S → Work) (allowed : S → ℕ → ℕ → ℕ) (moves : Moves S) (j : Judgement S) (calls : List Call) (as' : List Answer) (s r : Now S) (s_is : s ≡ started work j) (played : Played allowed moves calls as' s r) where
+  from_start : Played allowed moves calls as' (started work j) r
+  from_start = subst (λ x. Played allowed moves calls as' x r) s_is played
+
   fixed : Fixed allowed moves (started work j) r
-  fixed = played_fixed allowed moves calls as' (started work j) r played
+  fixed = played_fixed allowed moves calls as' (started work j) r from_start
 
   pub bounds_are : r.bounds ≡ j.bounds
   bounds_are = fixed.bounds
 
-  pub parts_told : r.parts ≡ parts_of (work plan.bank) j.verdict
-  parts_told = fixed.parts ∙ ap (λ p. parts_of (work p.bank) j.verdict) plan_is
+  pub parts_told : r.parts ≡ parts_of (work j.plan.bank) j.verdict
+  parts_told = fixed.parts
 
-  pub tasks_are : ByJudge work j → map rested r.tasks ≡ plan.tasks
-  tasks_are by_judge = fixed.tasks ∙ all_rested j.plan.tasks by_judge.fitting.rest ∙ ap (λ p. p.tasks) plan_is
+  pub tasks_are : ByJudge work j → map rested r.tasks ≡ j.plan.tasks
+  tasks_are by_judge = fixed.tasks ∙ all_rested j.plan.tasks by_judge.fitting.rest
 
-  pub begun_is : started work j ≡ begun plan r
-  begun_is = λ k. record { bank = (plan_is k).bank; tasks = (plan_is k).tasks; bounds = sym fixed.bounds k; parts = sym fixed.parts k; state = at_start }
+  begun_is : started work j ≡ begun j.plan r
+  begun_is = λ k. record { bank = j.plan.bank; tasks = j.plan.tasks; bounds = sym fixed.bounds k; parts = sym fixed.parts k; state = at_start }
 
-  module _ (sound : (s : S) → Sound (work s) (allowed s)) (driven : Driven work allowed moves) (by_judge : ByJudge work j) (ok : Acceptable work plan) where
-    ok_judged : Acceptable work j.plan
-    ok_judged = subst (Acceptable work) (sym plan_is) ok
+  pub played_begun : Played allowed moves calls as' (begun j.plan r) r
+  played_begun = subst (λ x. Played allowed moves calls as' x r) begun_is from_start
 
-    pub parts_taken : r.parts ≡ Some (work plan.bank).parts
-    parts_taken = fixed.parts ∙ parts_are work allowed moves sound driven j by_judge ok_judged ∙ ap (λ p. Some (work p.bank).parts) plan_is
+  module _ (sound : (s : S) → Sound (work s) (allowed s)) (driven : Driven work allowed moves) (by_judge : ByJudge work j) (ok : Acceptable work j.plan) where
+    pub parts_taken : r.parts ≡ Some (work j.plan.bank).parts
+    parts_taken = fixed.parts ∙ parts_are work allowed moves sound driven j by_judge ok
 
-    pub plan_kept : Keeps work plan r.bounds (log_of calls as')
-    plan_kept =
-        subst (λ p. Keeps work p r.bounds (log_of calls as')) plan_is
-        (subst (λ b. Keeps work j.plan b (log_of calls as')) (sym fixed.bounds) (promised work allowed moves sound driven j by_judge ok_judged calls as' r played))
+    pub plan_kept : Keeps work j.plan r.bounds (log_of calls as')
+    plan_kept = subst (λ b. Keeps work j.plan b (log_of calls as')) (sym fixed.bounds) (promised work allowed moves sound driven j by_judge ok calls as' r from_start)
 
-    pub plan_modelled : Modelled work allowed plan r (log_of calls as')
+    pub plan_modelled : Modelled work allowed j.plan r (log_of calls as')
     plan_modelled =
-        subst (λ p. ModelLeads (model_of work p r.bounds) (seen allowed (begun plan r)) (seen allowed r) (log_of calls as')) plan_is
-        (subst (λ b. ModelLeads (model_of work j.plan b) (seen allowed (begun plan r)) (seen allowed r) (log_of calls as')) (sym fixed.bounds)
-        (subst (λ x. ModelLeads (model_of work j.plan j.bounds) (seen allowed x) (seen allowed r) (log_of calls as')) begun_is (modelled work allowed moves sound driven j by_judge ok_judged calls as' r played)))
+        subst (λ b. ModelLeads (model_of work j.plan b) (seen allowed (begun j.plan r)) (seen allowed r) (log_of calls as')) (sym fixed.bounds)
+        (subst (λ x. ModelLeads (model_of work j.plan j.bounds) (seen allowed x) (seen allowed r) (log_of calls as')) begun_is (modelled work allowed moves sound driven j by_judge ok calls as' r from_start))
 
--- a plan is told to be accepted exactly if it is acceptable
-pub told_acceptable : {S : Type 0} (work : S → Work) (plan : Plan S) (v : Verdict) (bounds : List ℕ) → Judged (work plan.bank) plan.tasks v bounds → IsTrue (is_ok (outcome_of v)) ↔ Acceptable work plan
-told_acceptable work plan (Accepted k) bounds judged = (λ _. accepted_acceptable work plan (Accepted k) bounds judged refl, λ _. search rules)
-told_acceptable work plan NotJudgeable bounds judged = (λ e. search rules, λ ok. (let z = acceptable_accepted work plan NotJudgeable bounds judged ok in search rules))
-told_acceptable work plan (Late k) bounds judged = (λ e. search rules, λ ok. (let z = acceptable_accepted work plan (Late k) bounds judged ok in search rules))
+-- a plan is accepted exactly if it is acceptable
+pub told_acceptable : {S : Type 0} (work : S → Work) (j : Judgement S) → ByJudge work j → IsTrue (is_accepted j.verdict) ↔ Acceptable work j.plan
+told_acceptable work j by_judge = (λ e. accepted_acceptable work j.plan j.verdict j.bounds by_judge.judged e, λ ok. acceptable_accepted work j.plan j.verdict j.bounds by_judge.judged ok)

@@ -5,9 +5,8 @@
 ghost use Rattle.std.specs.Prelude.{◌≡◌, ◌↔◌, IsTrue, Some, drop, length, map};
 ghost use Rattle.plan.specs.Judged.{Judged};
 ghost use Rattle.plan.specs.Plans.{ByJudge};
-ghost use Rattle.plan.specs.declared.verdict.Verdict.{Verdict};
 ghost use Rattle.calls.specs.Events.{log_of};
-ghost use Rattle.run.specs.Runs.{parts_of, rested, started};
+ghost use Rattle.run.specs.Runs.{is_accepted, parts_of, rested};
 ghost use Rattle.guarantee.specs.Playing.{Did, Played};
 ghost use Rattle.guarantee.specs.Example.{Example};
 ghost use Rattle.guarantee.specs.Promise.{Acceptable, Keeps, Modelled, Promised, begun};
@@ -17,6 +16,7 @@ pub mod making;
 use crate::making::make;
 use calls::{Answer, Call};
 use plan::stages::{JudgedPlan, OpenPlan};
+use plan::verdict::Verdict;
 use run::Run;
 use source::Gate;
 
@@ -35,15 +35,27 @@ fn play<G: Gate>(run: &mut Run<G>, calls: &[Call], answers: &mut [Answer])
 }
 
 // Starts a run of a judged plan and makes the calls on it. What is promised of the answers stands at `play`, here and at `rehearse`,
-// since each hands it on.
+// since each hands it on: here of the judged plan, and there of the plan that it came from.
 fn run_of<G: Gate>(judged: JudgedPlan<G>, calls: &[Call], answers: &mut [Answer]) -> Run<G>
-    ensures played { Played G.allowed G.moves calls.now answers.new (started G.work judged) result }
-    ensures by_judge { ByJudge G.work judged }
+    ensures bounds { result.bounds ≡ judged.bounds }
+    ensures parts { result.parts ≡ parts_of (G.work judged.plan.bank) judged.verdict }
+    ensures tasks { map rested result.tasks ≡ judged.plan.tasks }
+    ensures played { Played G.allowed G.moves calls.now answers.new (begun judged.plan result) result }
+    ensures all_parts { Acceptable G.work judged.plan → result.parts ≡ Some (G.work judged.plan.bank).parts }
+    ensures guaranteed { Acceptable G.work judged.plan → Keeps G.work judged.plan result.bounds (log_of calls.now answers.new) }
+    ensures stepped { Acceptable G.work judged.plan → Modelled G.work G.allowed judged.plan result (log_of calls.now answers.new) }
     ensures rest { drop (length calls.now) answers.new ≡ drop (length calls.now) answers.old }
 {
     let mut run = Run::start(judged);
     play(&mut run, calls, answers);
     run
+}
+
+// Whether a plan with a verdict is accepted.
+fn accepts(verdict: Verdict) -> bool
+    ensures { result ≡ is_accepted verdict }
+{
+    verdict.outcome().is_ok()
 }
 
 // Whether both rules are promised of the runs of a judged plan: exactly if the plan is acceptable. And the promise itself, for every
@@ -54,7 +66,7 @@ pub fn is_promised<G: Gate>(judged: &JudgedPlan<G>) -> bool
     ensures promised { Promised G.work G.allowed G.moves }
     ensures by_judge { ByJudge G.work judged.now }
 {
-    judged.verdict().outcome().is_ok()
+    accepts(judged.verdict())
 }
 
 // Judges a plan, starts a run of it and makes the calls in order, as many as there is room for answers. Answers beyond the
@@ -71,12 +83,9 @@ pub fn rehearse<G: Gate>(plan: OpenPlan<G>, calls: &[Call], answers: &mut [Answe
     run_of(plan.judge(), calls, answers)
 }
 
-// How many tasks the plan of the example has. That there is a gate, an acceptable plan over it, and a list of calls in which an
-// offer is taken, a job is released, a hold is granted, a call is refused and a tick ends a job, is what this function promises.
+// That the promise speaks of something is what this function promises, and it does nothing: there is a gate, an acceptable plan over
+// it, and a list of calls in which an offer is taken, a job is released, a hold is granted, a call is refused and a tick ends a job.
 #[tactic(auto, using(crate::proofs::Exampled::example))]
-pub fn example() -> u32
-    ensures tasks { result ≡ 1 }
-    ensures example { Example }
-{
-    1
-}
+pub fn example()
+    ensures { Example }
+{}
