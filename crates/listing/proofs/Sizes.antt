@@ -1,5 +1,7 @@
 -- How long each text of a listing can be.
-use Rattle.std.proofs.Common.{◌≡◌, ℕ, ◌+◌, ◌^◌, ◌<◌, ◌≤◌, List, ◌++◌, length, decimal, sym, ap, ◌∙◌, add-one, arith, lit≤, length-append}
+use Rattle.std.proofs.Common.{◌≡◌, ℕ, suc, ◌+◌, ◌^◌, ◌<◌, ◌≤◌, List, [], ◌∷◌, ◌++◌, length, get_or, take, decimal, sym, ap, ◌∙◌, arith, lit≤, length-append}
+use Rattle.std.specs.List.{enumerate_from, flat_map}
+use Rattle.std.proofs.lemmas.List.{flat_map_more, length-take-le, take_more}
 use Rattle.std.proofs.lemmas.Fmt.{length-decimal-le}
 use Rattle.refusal.specs.Table.{row}
 use Rattle.refusal.specs.declared.Fault.{Fault}
@@ -59,6 +61,19 @@ refusal_line_short n layer line h l = simp length-append (omega (arith, ten n h,
 pub refusal_short : (refusal : Refusal) → refusal.line < 2 ^ 32 → length (refusal_text refusal) ≤ 36
 refusal_short refusal l = refusal_line_short (row refusal.fault).number (row refusal.fault).layer refusal.line (omega (arith, number_small refusal.fault)) l
 
+-- one item more has the next number
+enumerate_push : {X : Type 0} (n : ℕ) (xs : List X) (y : X) → enumerate_from n (xs ++ y ∷ []) ≡ enumerate_from n xs ++ (n + length xs, y) ∷ []
+enumerate_push {X} n [] y = let e : n ≡ n + 0 = omega arith in ap {B = List (ℕ × X)} (λ k. (k, y) ∷ []) e
+enumerate_push {X} n (x ∷ xs) y =
+    let e : n + 1 + length xs ≡ n + suc (length xs) = omega arith in
+    ap (λ ps. (n, x) ∷ ps) (enumerate_push (n + 1) xs y ∙ ap {B = List (ℕ × X)} (λ k. enumerate_from (n + 1) xs ++ (k, y) ∷ []) e)
+
 -- one line more, of the item that stands at its place
-pub line_more : {X : Type 0} (line : ℕ → X → List ℕ) (item : ℕ → X) (n : ℕ) (y : List ℕ) → y ≡ line (n + 1) (item n) → numbered line item n ++ y ≡ numbered line item (n + 1)
-line_more line item n y e = ap (λ t. numbered line item n ++ t) e ∙ ap (numbered line item) (sym (add-one n))
+pub line_more : {X : Type 0} (line : ℕ → X → List ℕ) (items : List X) (i : ℕ) (d : X) (y : List ℕ) → i < length items → y ≡ line (i + 1) (get_or items i d) → numbered line (take i items) ++ y ≡ numbered line (take (i + 1) items)
+line_more {X} line items i d y h e =
+    let text = λ (p : ℕ × X). line p.0 p.1 in
+    let item = get_or items i d in
+    let place : i + 1 ≡ 1 + length (take i items) = omega (arith, length-take-le i items) in
+    ap (λ t. numbered line (take i items) ++ t) (e ∙ ap (λ k. line k item) place)
+    ∙ flat_map_more text [] (enumerate_from 1 (take i items)) (1 + length (take i items), item)
+    ∙ ap (flat_map text) (sym (enumerate_push 1 (take i items) item) ∙ ap (enumerate_from 1) (sym (take_more items i d h)))

@@ -1,14 +1,20 @@
 -- The text of each kind of listing, and why one is not written.
-use Rattle.std.specs.Prelude.{ℕ, List, Ok, Err, Result}
+use Rattle.std.specs.Prelude.{ℕ, List, ◌++◌, Ok, Err, Result, length}
 use Rattle.refusal.specs.declared.Fault.TheVariants.{BufferTooShort}
 use Rattle.refusal.specs.declared.Refusal.{Refusal}
-use Rattle.listing.specs.declared.marks.Marks.{Marks}
-use Rattle.listing.specs.Texts.{accepted_text, refusal_text}
+use Rattle.listing.specs.declared.marks.TaskMark.{TaskMark}
+use Rattle.listing.specs.Texts.{accepted_line, part_lines, task_lines, refusal_text}
 
-abbrev pub marks_text : Marks → List ℕ
-marks_text marks = accepted_text marks.part_count marks.parts marks.task_count marks.tasks
+-- what is told of an accepted plan: the loads of its parts, and its tasks, in their order
+pub record Marked : Type 0 where
+  pub parts : List ℕ
+  pub tasks : List TaskMark
 
-abbrev pub listing_text : Result Marks Refusal → List ℕ
+-- the count of the tasks, then the parts, then the tasks
+abbrev pub marks_text : Marked → List ℕ
+marks_text marks = accepted_line (length marks.tasks) ++ (part_lines marks.parts ++ task_lines marks.tasks)
+
+abbrev pub listing_text : Result Marked Refusal → List ℕ
 listing_text (Ok marks) = marks_text marks
 listing_text (Err refusal) = refusal_text refusal
 

@@ -1,5 +1,6 @@
 -- The text of a listing.
-use Rattle.std.specs.Prelude.{ℕ, zero, suc, ◌+◌, List, [], ◌∷◌, ◌++◌, codes, decimal, slice_index, slice_index_or}
+use Rattle.std.specs.Prelude.{ℕ, List, [], ◌∷◌, ◌++◌, codes, decimal}
+use Rattle.std.specs.List.{enumerate_from, flat_map}
 use Rattle.refusal.specs.Table.{row}
 use Rattle.refusal.specs.declared.Layer.{Layer}
 use Rattle.refusal.specs.declared.Layer.TheVariants.{Words, Lines, Plan, Judge, Run, List as Listed}
@@ -22,19 +23,15 @@ part_line number load = codes "part " ++ (decimal number ++ (codes " load " ++ (
 abbrev pub task_line : ℕ → TaskMark → List ℕ
 task_line number mark = codes "task " ++ (decimal number ++ (codes " bound " ++ (decimal mark.bound ++ (codes " deadline " ++ (decimal mark.deadline ++ (codes " load " ++ (decimal mark.load ++ line_end)))))))
 
-abbrev pub unmarked : TaskMark
-unmarked = record { bound = 0; deadline = 0; load = 0 }
+-- a line for each item, one after another, with their numbers from 1 on
+abbrev pub numbered : {X : Type 0} → (ℕ → X → List ℕ) → List X → List ℕ
+numbered line items = flat_map (λ p. line p.0 p.1) (enumerate_from 1 items)
 
--- the lines of the first n items, one after another, with their numbers from 1 on
-abbrev pub numbered : {X : Type 0} → (ℕ → X → List ℕ) → (ℕ → X) → ℕ → List ℕ
-numbered line item zero = []
-numbered line item (suc n) = numbered line item n ++ line (n + 1) (item n)
+abbrev pub part_lines : List ℕ → List ℕ
+part_lines loads = numbered part_line loads
 
-abbrev pub part_lines : ℕ → List ℕ → List ℕ
-part_lines n loads = numbered part_line (λ k. slice_index loads k) n
-
-abbrev pub task_lines : ℕ → List TaskMark → List ℕ
-task_lines n marks = numbered task_line (λ k. slice_index_or marks k unmarked) n
+abbrev pub task_lines : List TaskMark → List ℕ
+task_lines tasks = numbered task_line tasks
 
 -- the name of a layer
 abbrev pub layer_name : Layer → List ℕ
@@ -48,10 +45,6 @@ layer_name Listed = codes "list"
 -- the line of a refusal: its number, the name of its layer, and the line of the sheet
 abbrev pub refusal_line : ℕ → List ℕ → ℕ → List ℕ
 refusal_line number layer line = codes "refused " ++ (decimal number ++ (codes " " ++ (layer ++ (codes " " ++ (decimal line ++ line_end)))))
-
--- of an accepted plan: the count of its tasks, then its parts, then its tasks
-abbrev pub accepted_text : ℕ → List ℕ → ℕ → List TaskMark → List ℕ
-accepted_text parts loads tasks marks = accepted_line tasks ++ (part_lines parts loads ++ task_lines tasks marks)
 
 abbrev pub refusal_text : Refusal → List ℕ
 refusal_text refusal = refusal_line (row refusal.fault).number (layer_name (row refusal.fault).layer) refusal.line

@@ -94,7 +94,7 @@ impl<'a> Text<'a> {
     // line of an item and its longest text, which is more than these two loops.
     pub(crate) fn put_parts(&mut self, marks: &Marks)
         requires { self.old.end + 42 * 9 ≤ length self.old.buffer.now }
-        ensures text { Puts self.old self.new (part_lines marks.now.part_count marks.now.parts) }
+        ensures text { Puts self.old self.new (part_lines marks.now.parts) }
         ensures short { self.new.end ≤ self.old.end + 42 * 9 }
     {
         let loads = marks.parts();
@@ -106,7 +106,7 @@ impl<'a> Text<'a> {
     // The lines of all tasks, in their order.
     pub(crate) fn put_tasks(&mut self, marks: &Marks)
         requires { self.old.end + 79 * 16 ≤ length self.old.buffer.now }
-        ensures text { Puts self.old self.new (task_lines marks.now.task_count marks.now.tasks) }
+        ensures text { Puts self.old self.new (task_lines marks.now.tasks) }
         ensures short { self.new.end ≤ self.old.end + 79 * 16 }
     {
         let tasks = marks.tasks();

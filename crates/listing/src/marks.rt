@@ -1,8 +1,8 @@
 // What a listing tells.
-ghost use Rattle.std.specs.Prelude.{◌≡◌, ◌+◌, ◌^◌, ◌<◌, ◌≤◌, true, false, length, replicate, take, nat_lt, slice_set};
-ghost use Rattle.listing.specs.Texts.{unmarked};
+ghost use Rattle.std.specs.Prelude.{◌≡◌, ◌+◌, ◌^◌, ◌<◌, ◌≤◌, [], ◌∷◌, ◌++◌, true, false, length, nat_lt, slice_set};
 
 use refusal::Refusal;
+use std::marker::Model;
 
 // One item more behind the first ones of a table, or false if it is full: that is the only way to fail, so an error would say no
 // more than the `bool`.
@@ -29,27 +29,33 @@ pub struct TaskMark {
     pub load: u64,
 }
 
-// The loads of up to 9 parts, and what is told of up to 16 tasks, in the order in which they were added.
-// The project wants fixed memory here, and no heap: so a table has a count beside it and is no `Vec`, and marks are copied.
-#[derive(Clone, Copy)]
+// The loads of up to 9 parts, and what is told of up to 16 tasks, in the order in which they were added: seen as two lists.
+// The project wants fixed memory here, and no heap: so a table has a count beside it and is no `Vec`.
+#[derive(Drop)]
 pub struct Marks {
-    pub(crate) parts: [u64; 9],
-    pub(crate) part_count: u32,
-    pub(crate) tasks: [TaskMark; 16],
-    pub(crate) task_count: u32,
+    parts: [u64; 9],
+    part_count: u32,
+    tasks: [TaskMark; 16],
+    task_count: u32,
     ghost part_room: { length parts ≡ 9 },
     ghost part_limit: { part_count ≤ 9 },
     ghost task_room: { length tasks ≡ 16 },
     ghost task_limit: { task_count ≤ 16 },
 }
 
+impl Model for Marks {
+    ghost use Rattle.std.specs.Prelude.{take};
+    ghost use Rattle.listing.specs.Listings.{Marked};
+
+    ghost Value = { Marked };
+
+    ghost view = { λ m. record { parts = take m.part_count m.parts; tasks = take m.task_count m.tasks } };
+}
+
 impl Marks {
     // No part and no task.
     pub fn new() -> Marks
-        ensures part_count { result.part_count ≡ 0 }
-        ensures parts { result.parts ≡ replicate 9 0 }
-        ensures task_count { result.task_count ≡ 0 }
-        ensures tasks { result.tasks ≡ replicate 16 unmarked }
+        ensures { result ≡ record { parts = []; tasks = [] } }
     {
         Marks {
             parts: [0; 9],
@@ -61,23 +67,24 @@ impl Marks {
 
     // The loads of the parts.
     pub(crate) fn parts(&self) -> &[u64]
-        ensures { result.now ≡ take self.now.part_count self.now.parts }
+        ensures loads { result.now ≡ self.now.parts }
+        ensures few { length self.now.parts ≤ 9 }
     {
         &self.parts[..self.part_count as usize]
     }
 
     // What is told of the tasks.
     pub(crate) fn tasks(&self) -> &[TaskMark]
-        ensures { result.now ≡ take self.now.task_count self.now.tasks }
+        ensures tasks { result.now ≡ self.now.tasks }
+        ensures few { length self.now.tasks ≤ 16 }
     {
         &self.tasks[..self.task_count as usize]
     }
 
     // One part more behind the others, or false if there is no room: a bool, as at `push`.
     pub fn add_part(&mut self, load: u64) -> bool
-        ensures answer { result ≡ nat_lt self.old.part_count 9 }
-        ensures added { result ≡ true → (self.new.parts ≡ slice_set self.old.parts self.old.part_count load) × (self.new.part_count ≡ self.old.part_count + 1) }
-        ensures tasks { (self.new.tasks ≡ self.old.tasks) × (self.new.task_count ≡ self.old.task_count) }
+        ensures answer { result ≡ nat_lt (length self.old.parts) 9 }
+        ensures added { result ≡ true → self.new ≡ record self.old { parts = self.old.parts ++ load ∷ [] } }
         ensures refused { result ≡ false → self.new ≡ self.old }
     {
         push(&mut self.parts, &mut self.part_count, load)
@@ -85,9 +92,8 @@ impl Marks {
 
     // One task more behind the others, or false if there is no room: a bool, as at `push`.
     pub fn add_task(&mut self, mark: TaskMark) -> bool
-        ensures answer { result ≡ nat_lt self.old.task_count 16 }
-        ensures added { result ≡ true → (self.new.tasks ≡ slice_set self.old.tasks self.old.task_count mark) × (self.new.task_count ≡ self.old.task_count + 1) }
-        ensures parts { (self.new.parts ≡ self.old.parts) × (self.new.part_count ≡ self.old.part_count) }
+        ensures answer { result ≡ nat_lt (length self.old.tasks) 16 }
+        ensures added { result ≡ true → self.new ≡ record self.old { tasks = self.old.tasks ++ mark ∷ [] } }
         ensures refused { result ≡ false → self.new ≡ self.old }
     {
         push(&mut self.tasks, &mut self.task_count, mark)

@@ -18,7 +18,7 @@ impl<'a> Text<'a> {
         ensures text { Puts self.old self.new (marks_text marks.now) }
         ensures short { self.new.end ≤ 2048 }
     {
-        self.put_accepted(marks.task_count);
+        self.put_accepted(marks.tasks().len() as u32);
         self.put_parts(marks);
         self.put_tasks(marks);
     }
