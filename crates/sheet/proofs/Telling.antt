@@ -1,28 +1,36 @@
 -- What is told of parts and tasks, one after another.
-use Rattle.std.proofs.Common.{◌≡◌, ℕ, zero, suc, ◌+◌, ◌<◌, List, ◌++◌, length, get_or, Ok, Err, Result, sym, refl, ap, ◌∙◌, subst, arith}
+use Rattle.std.proofs.Common.{◌≡◌, ℕ, ◌<◌, List, length, get_or, Ok, Err, Result, sym, refl, ap, ◌∙◌, subst, arith}
+use Rattle.std.proofs.lemmas.List.FromFn.{fill_by_all, get_or-map-range_with_len, length-map-range_with_len}
 use Rattle.refusal.specs.Refusals.{plain}
 use Rattle.refusal.specs.declared.Fault.TheVariants as faults
 use Rattle.refusal.specs.declared.Refusal.{Refusal}
 use Rattle.plan.proofs.Once.{once}
 use Rattle.plan.specs.Judged.{Judged, outcome_of, bounds_told}
-use Rattle.plan.specs.Tasks.{task_at}
+use Rattle.plan.specs.Tasks.{Task, task_at}
 use Rattle.plan.specs.declared.verdict.Verdict.{Verdict}
 use Rattle.plan.specs.declared.verdict.Verdict.TheVariants.{Accepted, NotJudgeable, Late}
-use Rattle.listing.specs.Texts.{accepted_line, part_line, task_line, numbered, refusal_text}
+use Rattle.listing.specs.Listings.{marks_text}
+use Rattle.listing.specs.Texts.{refusal_text}
+use Rattle.listing.specs.declared.marks.TaskMark.{TaskMark}
 use Rattle.sheet.specs.Drafts.{Plan}
-use Rattle.sheet.specs.Marking.{bank_work, part_load, task_mark, mark_at, accepted_plan, placed, late, verdict_text, ListedAs}
+use Rattle.sheet.specs.Marking.{bank_work, part_loads, task_mark, mark_at, task_marks, accepted_plan, placed, late, verdict_text, ListedAs}
 use Rattle.sheet.specs.Reading.{Sheet}
 
--- the same items give the same lines
-pub numbered_same : {X : Type 0} (line : ℕ → X → List ℕ) (f g : ℕ → X) (n : ℕ) → ((k : ℕ) → k < n → f k ≡ g k) → numbered line f n ≡ numbered line g n
-numbered_same line f g zero e = refl
-numbered_same line f g (suc n) e = let below = numbered_same line f g n (λ k l. e k (omega arith)) in let here = e n (omega arith) in λ i. below i ++ line (n + 1) (here i)
+abbrev pub unmarked : TaskMark
+unmarked = record { bound = 0; deadline = 0; load = 0 }
+
+-- marks that say of each task what is told of it
+pub marks_same : (tasks : List Task) (bounds : List ℕ) (marks : List TaskMark) → length marks ≡ length tasks → ((i : ℕ) → i < length tasks → get_or marks i unmarked ≡ mark_at tasks bounds i) → marks ≡ task_marks tasks bounds
+marks_same tasks bounds marks count each = fill_by_all (mark_at tasks bounds) marks (length tasks) unmarked count each
 
 -- the same bounds give the same text
 same_bounds : (p : Plan) (list bounds : List ℕ) → ((i : ℕ) → i < length p.tasks → get_or list i 0 ≡ get_or bounds i 0) → accepted_plan p list ≡ accepted_plan p bounds
 same_bounds p list bounds e =
-    let told = numbered_same task_line (mark_at p.tasks list) (mark_at p.tasks bounds) (length p.tasks) (λ i h. ap (task_mark (task_at p.tasks i)) (e i h)) in
-    ap (λ ts. accepted_line (length p.tasks) ++ (numbered part_line (part_load p.irqs p.timetable) (length p.irqs + 1) ++ ts)) told
+    let at = mark_at p.tasks list in
+    let told : task_marks p.tasks list ≡ task_marks p.tasks bounds =
+    marks_same p.tasks bounds (task_marks p.tasks list) (length-map-range_with_len at 0 (length p.tasks))
+    (λ i h. get_or-map-range_with_len at 0 (length p.tasks) i i unmarked h (omega arith) ∙ ap (task_mark (task_at p.tasks i)) (e i h)) in
+    ap (λ tasks. marks_text (record { parts = part_loads p.irqs p.timetable; tasks = tasks })) told
 
 -- the same verdict on as many tasks comes to the same
 pub placed_same : (lines n m : ℕ) (v w : Verdict) → n ≡ m → v ≡ w → placed lines n (outcome_of v) ≡ placed lines m (outcome_of w)

@@ -1,5 +1,6 @@
 -- The listing of a sheet: what the judge says of its plan, or why it is refused.
-use Rattle.std.specs.Prelude.{◌≡◌, ℕ, ◌+◌, ◌-◌, cond, List, ◌++◌, Ok, Err, Result, length, nat_lt, slice_index}
+use Rattle.std.specs.Prelude.{◌≡◌, ℕ, ◌-◌, List, [], ◌∷◌, ◌++◌, Ok, Err, Result, length, map, slice_index}
+use Rattle.std.specs.List.{range_with_len}
 use Rattle.loads.specs.Share.{load_of}
 use Rattle.refusal.specs.Refusals.{plain}
 use Rattle.refusal.specs.declared.Fault.TheVariants as faults
@@ -8,14 +9,15 @@ use Rattle.source.specs.Facts.{Work}
 use Rattle.source.specs.Rows.{work_one}
 use Rattle.source.specs.Sides.{both}
 use Rattle.paced.specs.Loads.{row_load}
-use Rattle.paced.specs.Tables.{row_at, work_in}
+use Rattle.paced.specs.Tables.{work_in}
 use Rattle.paced.specs.declared.row.Row.{Row}
 use Rattle.schedule.specs.Phases.{Timetable, total_length, timetables}
 use Rattle.plan.specs.Judged.{Judged}
 use Rattle.plan.specs.Tasks.{Task, task_at}
 use Rattle.plan.specs.declared.verdict.Verdict.{Verdict}
 use Rattle.plan.specs.declared.verdict.Verdict.TheVariants.{Accepted, NotJudgeable, Late}
-use Rattle.listing.specs.Texts.{accepted_line, part_line, task_line, numbered, refusal_text}
+use Rattle.listing.specs.Listings.{Marked, marks_text}
+use Rattle.listing.specs.Texts.{refusal_text}
 use Rattle.listing.specs.declared.marks.TaskMark.{TaskMark}
 use Rattle.sheet.specs.Drafts.{Plan}
 use Rattle.sheet.specs.Reading.{Sheet, on_line, read}
@@ -24,9 +26,9 @@ use Rattle.sheet.specs.Reading.{Sheet, on_line, read}
 abbrev pub bank_work : Plan → Work
 bank_work p = both (work_in p.irqs) (work_one timetables p.timetable)
 
--- the load of the part at place k: the interrupts in their order, then the schedule
-abbrev pub part_load : List Row → Timetable → ℕ → ℕ
-part_load irqs t k = cond (nat_lt k (length irqs)) (row_load (row_at irqs k)) (load_of (total_length t.pairs) t.cycle)
+-- the loads of the parts: the interrupts in their order, then the schedule
+abbrev pub part_loads : List Row → Timetable → List ℕ
+part_loads irqs t = map row_load irqs ++ load_of (total_length t.pairs) t.cycle ∷ []
 
 -- what is told of a task with that bound
 abbrev pub task_mark : Task → ℕ → TaskMark
@@ -36,12 +38,17 @@ task_mark task bound = record { bound = bound; deadline = task.limit.deadline; l
 abbrev pub mark_at : List Task → List ℕ → ℕ → TaskMark
 mark_at tasks bounds i = task_mark (task_at tasks i) (slice_index bounds i)
 
--- the text of an accepted plan: the count of its tasks, then the parts, then the tasks
+-- what is told of all tasks, in their order
+abbrev pub task_marks : List Task → List ℕ → List TaskMark
+task_marks tasks bounds = map (mark_at tasks bounds) (range_with_len 0 (length tasks))
+
+-- what is told of an accepted plan: its parts, and its tasks
+abbrev pub marks_of : Plan → List ℕ → Marked
+marks_of p bounds = record { parts = part_loads p.irqs p.timetable; tasks = task_marks p.tasks bounds }
+
+-- the text of an accepted plan
 abbrev pub accepted_plan : Plan → List ℕ → List ℕ
-accepted_plan p bounds =
-    accepted_line (length p.tasks)
-    ++ (numbered part_line (part_load p.irqs p.timetable) (length p.irqs + 1)
-    ++ numbered task_line (mark_at p.tasks bounds) (length p.tasks))
+accepted_plan p bounds = marks_text (marks_of p bounds)
 
 -- the line of task i of so many, on a sheet of so many lines: the tasks stand on the last ones
 abbrev pub line_of : ℕ → ℕ → ℕ → ℕ

@@ -1,11 +1,11 @@
 // What is told of a sheet: loads, bounds and deadlines, or a refusal.
-ghost use Rattle.std.specs.Prelude.{◌≡◌, ℕ, ◌+◌, ◌<◌, length, slice_index};
+ghost use Rattle.std.specs.Prelude.{◌≡◌, ◌<◌, [], length};
 ghost use Rattle.plan.specs.Judged.{outcome_of};
 ghost use Rattle.plan.specs.Tasks.{task_at};
 ghost use Rattle.plan.specs.declared.verdict.Verdict.TheVariants.{Accepted};
-ghost use Rattle.listing.specs.Listings.{marks_text, listing_text};
+ghost use Rattle.listing.specs.Listings.{listing_text};
 ghost use Rattle.sheet.specs.Drafts.{plan_view};
-ghost use Rattle.sheet.specs.Marking.{part_load, task_mark, accepted_plan, line_of, placed, verdict_text, Listed};
+ghost use Rattle.sheet.specs.Marking.{part_loads, task_mark, marks_of, line_of, placed, verdict_text, Listed};
 
 use crate::reading::{Finished, read};
 use listing::{Listing, Marks, TaskMark};
@@ -35,9 +35,7 @@ fn outcome_on_line(verdict: Verdict, lines: u32, tasks: u32) -> Result<u32, Refu
 
 // The loads of the parts: the interrupts in their order, then the schedule.
 fn part_marks(bank: &Pair<Rack, Schedule>) -> Marks
-    ensures count { result.part_count ≡ length bank.now.left.list + 1 }
-    ensures loads { (k : ℕ) → k < result.part_count → slice_index result.parts k ≡ part_load bank.now.left.list bank.now.right.timetable k }
-    ensures tasks { result.task_count ≡ 0 }
+    ensures { result ≡ record { parts = part_loads bank.now.left.list bank.now.right.timetable; tasks = [] } }
 {
     let mut marks = Marks::new();
     for part in 1..=bank.left.count() {
@@ -65,7 +63,7 @@ fn task_mark(tasks: &Tasks, place: u32, bound: u32) -> TaskMark
 // What is told of an accepted plan: its parts, then its tasks.
 fn marks_of(judged: &JudgedPlan<Pair<Rack, Schedule>>) -> Marks
     requires { judged.now.verdict ≡ Accepted (length judged.now.plan.tasks) }
-    ensures { marks_text result ≡ accepted_plan (plan_view judged.now.plan) judged.now.bounds }
+    ensures { result ≡ marks_of (plan_view judged.now.plan) judged.now.bounds }
 {
     let mut marks = part_marks(judged.bank());
     let mut bounds = [0; 16];
