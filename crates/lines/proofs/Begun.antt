@@ -5,7 +5,7 @@ use Rattle.std.proofs.lemmas.Option.{none-some, same_Some}
 use Rattle.words.specs.Numbers.{value_of}
 use Rattle.words.specs.Split.{before, onward}
 use Rattle.words.proofs.Cutting.{pieces_first}
-use Rattle.lines.specs.Numbers.{followed_by, numbers_of, numbers_after, front, behind}
+use Rattle.lines.specs.Numbers.{followed_by, numbers_of, numbers_after, front, behind, Reads}
 use Rattle.lines.specs.Rows.{said, costs_of, costs_said, row_said}
 use Rattle.lines.specs.declared.row.Costs.{Costs}
 use Rattle.lines.specs.declared.row.Kind.{Kind}
@@ -38,8 +38,8 @@ first_on (x ∷ xs) more n e m = ap numbers_of (pieces_first 32 xs) ∙ (λ i. f
 
 -- it is read, and stands at the head from then on
 infixl 50 ◌▸◌
-pub ◌▸◌ : {all ns rest more : List ℕ} {n : ℕ} → Begun all ns rest → (front rest ≡ Some n) × (more ≡ behind rest) → Begun all (ns ++ n ∷ []) more
-◌▸◌ {all} {ns} {rest} {more} {n} b h = record { joined = b.joined ∙ ap (joined_to ns) (first_on rest more n h.0 h.1) ∙ joined_on ns n (numbers_after more) }
+pub ◌▸◌ : {all ns rest more : List ℕ} {n : ℕ} → Begun all ns rest → Reads rest n more → Begun all (ns ++ n ∷ []) more
+◌▸◌ {all} {ns} {rest} {more} {n} b h = record { joined = b.joined ∙ ap (joined_to ns) (first_on rest more n h.number h.after) ∙ joined_on ns n (numbers_after more) }
 
 -- where something else comes next, there are no numbers
 first_missing : (x : ℕ) (xs : List ℕ) → front (x ∷ xs) ≡ None → numbers_after (x ∷ xs) ≡ None

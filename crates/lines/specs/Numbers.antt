@@ -1,5 +1,5 @@
 -- The numbers on a line, after its keyword.
-use Rattle.std.specs.Prelude.{ℕ, List, [], ◌∷◌, Some, None, Option}
+use Rattle.std.specs.Prelude.{◌≡◌, ℕ, List, [], ◌∷◌, Some, None, Option}
 use Rattle.words.specs.Numbers.{value_of}
 use Rattle.words.specs.Split.{before, onward, following}
 use Rattle.words.specs.Tokens.{Word, letters, number}
@@ -34,3 +34,8 @@ front (space ∷ more) = value_of (before 32 more)
 abbrev pub behind : List ℕ → List ℕ
 behind [] = []
 behind (space ∷ more) = onward 32 more
+
+-- the first word of the rest writes that number, and this is left after it
+pub record Reads (rest : List ℕ) (n : ℕ) (left : List ℕ) : Type 0 where
+  pub number : front rest ≡ Some n
+  pub after : left ≡ behind rest

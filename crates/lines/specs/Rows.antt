@@ -1,5 +1,5 @@
 -- What a line says: a keyword and its numbers. A line is good if it is what such a row writes.
-use Rattle.std.specs.Prelude.{◌≡◌, ℕ, ◌+◌, ◌-◌, min, Bool, true, cond, ◌&&◌, List, [], ◌∷◌, ◌++◌, map, length, take, replicate, Some, None, Ok, Err, codes, decimal, Option, Result, ◌==◌, nat_le, slice_index}
+use Rattle.std.specs.Prelude.{◌≡◌, ℕ, ◌+◌, ◌-◌, min, Bool, true, cond, ◌&&◌, List, [], ◌∷◌, ◌++◌, map, length, take, replicate, Some, None, Ok, Err, codes, decimal, Option, Result, ◌==◌, nat_le, nat_lt, slice_index, slice_set}
 use Rattle.refusal.specs.declared.Fault.{Fault}
 use Rattle.refusal.specs.declared.Fault.TheVariants.{BadLine}
 use Rattle.words.specs.Split.{pieces, joined}
@@ -118,6 +118,13 @@ LineRule line = ((s : Said) → read_line line ≡ Ok s → (line ≡ written s)
 -- costs in a table of nine, one more than any part may have: what lies beyond is cut off, what is missing is 0
 abbrev pub costs_of : List ℕ → Costs
 costs_of ns = record { numbers = take 9 ns ++ replicate (9 - length ns) 0; count = min 9 (length ns) }
+
+-- the same with one cost more, if there is a place for it
+abbrev pub with_cost : Costs → ℕ → Costs
+with_cost costs cost =
+    cond (nat_lt costs.count 9)
+    (record { numbers = slice_set costs.numbers costs.count cost; count = costs.count + 1 })
+    costs
 
 -- at least one cost
 abbrev pub costs_said : Option (List ℕ) → Option Costs

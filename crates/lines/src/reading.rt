@@ -1,8 +1,8 @@
 // From a line to its row.
-ghost use Rattle.std.specs.Prelude.{◌≡◌, length, if◌then◌else◌, Some, None, MatchOption, nat_eq};
+ghost use Rattle.std.specs.Prelude.{◌≡◌, length, if◌then◌else◌, Some, None, IfSome, IfNone, nat_eq};
 ghost use Rattle.lines.specs.declared.row.Kind.TheVariants.{Cycle, At, Irq, Task};
 ghost use Rattle.words.specs.Split.{pieces};
-ghost use Rattle.lines.specs.Numbers.{front, behind, numbers_after};
+ghost use Rattle.lines.specs.Numbers.{front, numbers_after, Reads};
 ghost use Rattle.lines.specs.Rows.{kind_of, said, said_by, costs_said, row_said, read_line, LineRule, row_told};
 
 use crate::row::{Costs, Kind, Row};
@@ -33,7 +33,8 @@ struct Reader<'a> {
 impl<'a> Reader<'a> {
     // The number after the space with which the rest begins.
     fn number(&mut self) -> Option<u32>
-        ensures { MatchOption result (front self.old.rest.now ≡ None) (λ n. (front self.old.rest.now ≡ Some n) × (self.new.rest.now ≡ behind self.old.rest.now)) }
+        ensures number { IfSome result (λ n. Reads self.old.rest.now n self.new.rest.now) }
+        ensures none { IfNone result (front self.old.rest.now ≡ None) }
     {
         let (_, words) = self.rest.split_first()?;
         // an `else`, since one pattern asks for a word and for a number at once

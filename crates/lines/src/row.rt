@@ -1,5 +1,5 @@
 // What a line says.
-ghost use Rattle.std.specs.Prelude.{◌≡◌, ◌+◌, min, ltb, if◌then◌else◌, take, slice_set};
+ghost use Rattle.std.specs.Prelude.{◌≡◌, min, take};
 
 // The keywords with which a line begins.
 #[derive(Clone, Copy, PartialEq, Eq, Debug)]
@@ -48,9 +48,11 @@ pub enum Row {
 }
 
 impl Costs {
+    ghost use Rattle.lines.specs.Rows.{with_cost};
+
     // One cost more, if there is a place for it.
     pub(crate) fn push(&mut self, cost: u32)
-        ensures { self.new ≡ (if ltb self.old.count 9 then (record { numbers = slice_set self.old.numbers self.old.count cost; count = self.old.count + 1 }) else self.old) }
+        ensures { self.new ≡ with_cost self.old cost }
     {
         if self.count < KEPT {
             self.numbers[self.count] = cost;

@@ -1,6 +1,6 @@
 // From a line to its call.
-ghost use Rattle.std.specs.Prelude.{◌≡◌, Some, None, MatchOption};
-ghost use Rattle.lines.specs.Numbers.{front, behind, numbers_after};
+ghost use Rattle.std.specs.Prelude.{◌≡◌, Some, None, IfSome, IfNone};
+ghost use Rattle.lines.specs.Numbers.{front, numbers_after, Reads};
 ghost use Rattle.transcript.specs.Calls.{verb_of, one, two, call_with, read_call, CallRule};
 
 use calls::Call;
@@ -36,7 +36,8 @@ fn verb_of(word: &[u8]) -> Option<Verb>
 // The number after the space with which the rest of a line begins, and what follows it. The reader of a sheet's line does the same with
 // words that have a line and a place, which these have not.
 fn number(rest: &[u8]) -> Option<(u32, &[u8])>
-    ensures { MatchOption result (front rest.now ≡ None) (λ p. (front rest.now ≡ Some p.0) × (p.1.now ≡ behind rest.now)) }
+    ensures number { IfSome result (λ p. Reads rest.now p.0 p.1.now) }
+    ensures none { IfNone result (front rest.now ≡ None) }
 {
     let (_, text) = rest.split_first()?;
     let (word, after) = first_word(text);
