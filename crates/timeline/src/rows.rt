@@ -1,7 +1,7 @@
 // The cells of a row.
-ghost use Rattle.std.specs.Prelude.{◌≡◌, ◌++◌, List, [], IfOk, OnOk};
-ghost use Rattle.calls.specs.Events.{Event};
-ghost use Rattle.timeline.specs.Rows.{added, cells, ruler, part_cell, task_cell, part_row, task_row, RowOf, ShowsEnds};
+ghost use Rattle.std.specs.Prelude.{◌≡◌, [], IfOk, OnOk};
+ghost use Rattle.timeline.specs.Rows.{cells, ruler, part_cell, task_cell, part_row, task_row, RowOf, ShowsEnds};
+ghost use Rattle.timeline.specs.Tracks.{AddsCell};
 
 use crate::log::Log;
 use crate::tracks::{Backlog, Pending, Ruler, Track};
@@ -15,7 +15,7 @@ fn add_cell<T: Track>(
     call: Call,
     answer: Answer,
 ) -> Result<(), AllocError>
-    ensures { OnOk result ((start : T) (log : List Event) → T.Went start log track.now → row.new.items ≡ row.old.items ++ added (T.cell start log) call answer) }
+    ensures { OnOk result (AddsCell T.cell T.Went track.now call answer row.old.items row.new.items) }
 {
     if let (Call::Tick, Answer::Ticked(got)) = (call, answer) {
         row.push(track.mark(got))?;

@@ -1,12 +1,12 @@
 // What a row is read off by: what is known between two calls of a log, and what stands in the row for a tick. Each is told case by
 // case, as the page on the timeline tells it.
-ghost use Rattle.std.specs.Prelude.{◌≡◌, ℕ, ◌^◌, ◌<◌, ◌++◌, ◌∷◌, [], List, length, cond};
+ghost use Rattle.std.specs.Prelude.{◌≡◌, ℕ, ◌^◌, ◌<◌, List, length, cond};
 ghost use Rattle.calls.specs.Events.{Event, part_units};
 ghost use Rattle.calls.specs.Jobs.{job_of};
 ghost use Rattle.calls.specs.declared.Got.{Got};
 ghost use Rattle.timeline.specs.Rows.{left_of, ruler_cell, part_cell, task_cell, passed_in, given_in};
 ghost use Rattle.timeline.specs.Steps.{left_after};
-ghost use Rattle.timeline.specs.Tracks.{Counted, Numbered};
+ghost use Rattle.timeline.specs.Tracks.{Counted, GoesOn, Numbered};
 
 use calls::{Answer, Call, Got};
 
@@ -25,7 +25,7 @@ pub(crate) trait Track: Drop {
     // Takes a call and the answer to it: two values, as a log has them in two lists, since each match takes both apart.
     fn pass(&mut self, call: Call, answer: Answer)
         requires { (start : Self) × (log : List Event) × Went start log self.old × (length log < 2 ^ 63) }
-        ensures { (start : Self) (log : List Event) → Went start log self.old → Went start (log ++ (record { call = call; answer = answer } ∷ [])) self.new };
+        ensures { GoesOn Went self.old call answer self.new };
 }
 
 // The ruler: it numbers the ticks.
