@@ -1,6 +1,6 @@
 // A whole listing.
-ghost use Rattle.std.specs.Prelude.{◌≡◌, ◌<◌, ◌≤◌, ◌++◌, length, drop, Ok, Err};
-ghost use Rattle.listing.specs.Put.{Puts};
+ghost use Rattle.std.specs.Prelude.{◌≡◌, ◌<◌, ◌≤◌, length, Ok, Err};
+ghost use Rattle.listing.specs.Put.{put, Puts};
 ghost use Rattle.listing.specs.Listings.{marks_text, listing_text, too_short};
 
 use crate::marks::{Listing, Marks};
@@ -41,7 +41,7 @@ impl<'a> Text<'a> {
 // buffer of less than 2,048 bytes is refused and stays as it was.
 pub fn write_listing(buffer: &mut [u8], listing: &Listing) -> Result<usize, Refusal>
     ensures answer { 2048 ≤ length buffer.old → result ≡ Ok (length (listing_text listing.now)) }
-    ensures text { 2048 ≤ length buffer.old → buffer.new ≡ listing_text listing.now ++ drop (length (listing_text listing.now)) buffer.old }
+    ensures text { 2048 ≤ length buffer.old → buffer.new ≡ put buffer.old 0 (listing_text listing.now) }
     ensures short { 2048 ≤ length buffer.old → length (listing_text listing.now) ≤ 2048 }
     ensures refused { length buffer.old < 2048 → result ≡ Err too_short }
     ensures kept { length buffer.old < 2048 → buffer.new ≡ buffer.old }
