@@ -1,3 +1,4 @@
 pub mod Worked
 pub mod Plans
+pub mod Figures
 pub mod Premises

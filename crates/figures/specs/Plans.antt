@@ -1,5 +1,4 @@
--- The worked figures of a plan, in four groups: the bounds of the sample plan and what refuses it, the same plan as a sheet, and
--- two loads.
+-- The worked figures of the sample plan, in four groups: its two bounds, what refuses it, and two loads.
 use Rattle.std.specs.Prelude.{◌≡◌, ℕ, List, [], ◌∷◌, ◌++◌, false, codes}
 use Rattle.loads.specs.Share.{load_of}
 use Rattle.source.specs.Facts.{Work}
@@ -9,9 +8,9 @@ use Rattle.paced.specs.Loads.{row_load}
 use Rattle.paced.specs.Makes.{Asked, fresh}
 use Rattle.paced.specs.Tables.{work_in}
 use Rattle.schedule.specs.Phases.{Timetable, timetables}
-use Rattle.plan.specs.Judged.{Judged}
+use Rattle.plan.specs.Judged.{Bounded, Judged}
 use Rattle.plan.specs.Tasks.{Task, made}
-use Rattle.plan.specs.declared.verdict.Verdict.TheVariants.{Accepted, Late}
+use Rattle.plan.specs.declared.verdict.Verdict.TheVariants.{Late}
 use Rattle.sheet.specs.Marking.{Listed}
 use Rattle.figures.specs.Worked.{early, jittery}
 
@@ -60,13 +59,20 @@ listing_lines =
     ∷ codes "task 2 bound 12 deadline 40 load 334"
     ∷ []
 
-pub record PlanFigures : Type 0 where
-  -- with deadline 15 the sample plan is accepted with the bounds 11 and 12, with deadline 10 it is refused for task 1
-  pub sample : Judged bank (tasks 15) (Accepted 2) (11 ∷ 12 ∷ [])
-  pub too_late : Judged bank (tasks 10) (Late 1) []
-  -- the same as sheets: the listing of the first, and the refusal of the second
-  pub listing : Listed (text_of (lines_with (codes "task 40 0 2 15 0 2"))) (text_of listing_lines)
-  pub refusal : Listed (text_of (lines_with (codes "task 40 0 2 10 0 2"))) (text_of (codes "refused 10 judge 5" ∷ []))
-  -- five units in twelve ticks, and costs 3 and 1 in two periods of 60
-  pub load_schedule : load_of 5 12 ≡ 4167
-  pub load_task : row_load (fresh lower) ≡ 334
+-- with deadline 15 the sample plan is accepted: its first task has bound 11, and its second 12
+abbrev pub FirstBound : Type 0
+FirstBound = Bounded bank (tasks 15) 0 11
+
+abbrev pub SecondBound : Type 0
+SecondBound = Bounded bank (tasks 15) 1 12
+
+-- with deadline 10 it is refused for task 1, as a plan and as a sheet
+pub record TooLate : Type 0 where
+  pub judged : Judged bank (tasks 10) (Late 1) []
+  pub listed : Listed (text_of (lines_with (codes "task 40 0 2 10 0 2"))) (text_of (codes "refused 10 judge 5" ∷ []))
+
+-- five units in twelve ticks, and costs 3 and 1 in two periods of 60; and the listing that prints these loads, with both bounds
+pub record Loads : Type 0 where
+  pub schedule : load_of 5 12 ≡ 4167
+  pub task : row_load (fresh lower) ≡ 334
+  pub listed : Listed (text_of (lines_with (codes "task 40 0 2 15 0 2"))) (text_of listing_lines)

@@ -1,16 +1,16 @@
-// The worked figures of docs/TIMING.md, proved from the definitions, and cases of what the promises begin with.
+// The worked figures of docs/TIMING.md, proved from the definitions, and cases of what the promises begin with. The calls do nothing:
+// each is there for its contract.
 #![tactic(auto)]
 
-ghost use Rattle.std.specs.Prelude.{◌≡◌};
-ghost use Rattle.figures.specs.Worked.{Figures};
+ghost use Rattle.figures.specs.Figures.{Figures};
+ghost use Rattle.figures.specs.Premises.{Premises};
 
-pub mod plans;
-pub mod premises;
+// Each figure of the nine groups is what the definitions come to.
+pub fn worked_figures()
+    ensures { Figures }
+{}
 
-// How many groups of figures there are; that each of them holds is what this function promises.
-pub fn worked_figures() -> u32
-    ensures groups { result ≡ 5 }
-    ensures figures { Figures }
-{
-    5
-}
+// For each promise that says "if" or "for every" there is a case in which that holds.
+pub fn premises_hold()
+    ensures { Premises }
+{}
