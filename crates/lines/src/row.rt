@@ -13,6 +13,8 @@ pub enum Kind {
 // How many costs are kept of a line: one more than any part may have, so that too many are seen to be too many.
 pub const KEPT: usize = 9;
 
+const _: () = prove!(KEPT == 9);
+
 // The first nine costs of a line, with 0 after the last. The project wants fixed memory here, and no heap: so the table has a count
 // beside it and is no `Vec`, and a row is copied.
 #[derive(Clone, Copy, Default)]

@@ -10,6 +10,8 @@ use refusal::{Fault, Refusal};
 // A buffer of this many bytes has room for every listing.
 pub const ROOM: usize = 2048;
 
+const _: () = prove!(ROOM == 2048);
+
 impl<'a> Text<'a> {
     // The listing of an accepted plan.
     fn put_marks(&mut self, marks: &Marks)

@@ -14,6 +14,8 @@ use refusal::Fault;
 // Every number given is at most this.
 pub const LARGEST: u32 = 1_000_000;
 
+const _: () = prove!(LARGEST == 1_000_000);
+
 // What is given of a paced part: an arrival at most every `period` ticks, each offered up to `jitter` ticks late, for
 // these costs in turn.
 #[derive(Clone, Copy)]

@@ -10,6 +10,8 @@ use source::Source;
 // How many parts the bank of a plan may have.
 pub const BANK_PARTS: u32 = 16;
 
+const _: () = prove!(BANK_PARTS == 16);
+
 // A verdict, and the list that goes with it: the bounds of the tasks, or of those above the late one, and 0 behind them.
 #[derive(Clone, Copy)]
 pub(crate) struct Finding {

@@ -6,6 +6,8 @@ ghost use Rattle.run.specs.Steps.{older};
 // The most units that may wait in all backlogs together.
 pub const MOST_BACKLOG: u64 = 1_000_000;
 
+const _: () = prove!(MOST_BACKLOG == 1_000_000);
+
 // The job of a task: the units left of it, and its age in ticks. With no units left no job is pending: the rules ask for the units left of
 // any task, 0 where there is no job, and a plain job has them without a match.
 #[derive(Clone, Copy, Default)]

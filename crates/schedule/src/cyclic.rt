@@ -20,6 +20,8 @@ use std::marker::Model;
 // How many pairs a schedule has room for.
 pub const PAIRS: u32 = 64;
 
+const _: () = prove!(PAIRS == 64);
+
 // A cycle of 1 or more ticks and up to 64 pairs of offset and length, the offsets strictly rising and below the cycle.
 // `phase` is the present tick of the cycle, `taken` whether its pair was offered already. `whole` is the sum of all
 // lengths, kept so that it is added up once, a pair at a time, and not at each question.

@@ -17,6 +17,8 @@ use words::token::Line;
 // How many bytes a sheet may have.
 pub const LONGEST_SHEET: usize = 16_384;
 
+const _: () = prove!(LONGEST_SHEET == 16_384);
+
 // What the first line makes.
 fn first(line: Line) -> Result<Draft, Refusal>
     ensures { result ≡ next_row None (row_told (read_line line.entry.bytes.now)) }

@@ -9,8 +9,12 @@ pub mod pair;
 // The longest window that a source is asked about.
 pub const LONGEST: u32 = 1_000_000;
 
+const _: () = prove!(LONGEST == 1_000_000);
+
 // The most parts that a source has.
 pub const MOST_PARTS: u32 = 1000;
+
+const _: () = prove!(MOST_PARTS == 1000);
 
 // Work that goes before all tasks, in parts that are numbered from 1.
 //
