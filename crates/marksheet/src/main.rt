@@ -1,7 +1,7 @@
 // Marks a plan sheet: reads it from standard input and writes its listing to standard output.
 #![tactic(auto)]
 
-use listing::ROOM;
+use listing::{ROOM, write_listing};
 use sheet::{LONGEST_SHEET, list};
 use std::io::{Read, Write};
 
@@ -12,13 +12,12 @@ fn run(rt: &HostRuntime) -> anyhow::Result<()> {
         .take(LONGEST_SHEET as u64 + 1)
         .read_to_end(&mut sheet)?;
     let mut buffer = [0; ROOM];
-    match list(&sheet, &mut buffer) {
-        Ok(count) => rt.stdout().write_all(buffer.get(0..count).unwrap_or(&[]))?,
-        Err(refusal) => {
-            let number = refusal.number();
-            println!(rt; "refused {number}")?;
-        }
-    }
+    let count = match list(&sheet, &mut buffer) {
+        Ok(count) => count,
+        // not with so large a buffer; it is printed as every other refusal
+        Err(refusal) => write_listing(&mut buffer, &Err(refusal)).unwrap_or(0),
+    };
+    rt.stdout().write_all(buffer.get(0..count).unwrap_or(&[]))?;
     Ok(())
 }
 
