@@ -1,5 +1,5 @@
 // The first part of a text, up to a byte.
-ghost use Rattle.std.specs.Prelude.{◌≡◌, ◌<◌, [], ◌∷◌, length, position, MatchOption, ◌==◌};
+ghost use Rattle.std.specs.Prelude.{◌≡◌, ◌<◌, [], ◌∷◌, length, position, IfSome, IfNone, ◌==◌};
 ghost use Rattle.words.specs.Split.{before, onward};
 
 // The place of the first such byte, if there is one.
@@ -11,7 +11,10 @@ fn place_of(byte: u8, bytes: &[u8]) -> Option<usize>
 
 // The first line without its line feed, and what follows the line feed. Nothing if there is no line feed.
 pub fn first_line(sheet: &[u8]) -> Option<(&[u8], &[u8])>
-    ensures { MatchOption result (onward 10 sheet.now ≡ []) (λ p. (p.0.now ≡ before 10 sheet.now) × ((10 ∷ p.1.now) ≡ onward 10 sheet.now) × (length p.1.now < length sheet.now)) }
+    ensures line { IfSome result (λ p. p.0.now ≡ before 10 sheet.now) }
+    ensures after { IfSome result (λ p. (10 ∷ p.1.now) ≡ onward 10 sheet.now) }
+    ensures shorter { IfSome result (λ p. length p.1.now < length sheet.now) }
+    ensures unended { IfNone result (onward 10 sheet.now ≡ []) }
 {
     let end = place_of(b'\n', sheet)?;
     Some((&sheet[..end], &sheet[end + 1..]))

@@ -1,5 +1,6 @@
 // The words of a line.
-ghost use Rattle.std.specs.Prelude.{◌≡◌, Some, None, MatchResult};
+ghost use Rattle.std.specs.Prelude.{◌≡◌, None, IfOk, IfErr, OnErr};
+ghost use Rattle.std.specs.Result.{result_err};
 ghost use Rattle.refusal.specs.declared.Fault.TheVariants.{BadWord};
 ghost use Rattle.words.specs.Split.{before, OnlyCut};
 ghost use Rattle.words.specs.Tokens.{word_of, line_fault, told, Taken};
@@ -35,7 +36,9 @@ pub enum Token<'a> {
 
 // The first word of the rest of a line, which begins with a word, and what follows it: from a space on, or nothing.
 pub fn next_token<'a>(line: Line<'a>, rest: &'a [u8]) -> Result<(Token<'a>, &'a [u8]), Fault>
-    ensures { MatchResult result (λ p. Taken line.entry.number line.entry.bytes.now rest.now (told p.0) p.1.now) (λ f. (word_of (before 32 rest.now) ≡ None) × (f ≡ BadWord)) }
+    ensures token { IfOk result (λ p. Taken line.entry.number line.entry.bytes.now rest.now (told p.0) p.1.now) }
+    ensures no_word { OnErr result (word_of (before 32 rest.now) ≡ None) }
+    ensures fault { IfErr result (λ f. f ≡ BadWord) }
 {
     let (spelling, after) = first_word(rest);
     let place = line.bytes.len().saturating_sub(rest.len());
@@ -60,7 +63,7 @@ pub fn next_token<'a>(line: Line<'a>, rest: &'a [u8]) -> Result<(Token<'a>, &'a 
 
 // What is wrong with a line: a byte that no sheet has or, if there is none, words that are none.
 pub fn check_line(line: Line) -> Result<(), Fault>
-    ensures fault { MatchResult result (λ _. line_fault line.entry.bytes.now ≡ None) (λ f. line_fault line.entry.bytes.now ≡ Some f) }
+    ensures fault { result_err result ≡ line_fault line.entry.bytes.now }
     ensures words { OnlyCut 32 line.entry.bytes.now }
 {
     if !is_clean(line.bytes) {

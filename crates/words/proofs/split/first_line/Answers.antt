@@ -6,7 +6,7 @@ use Rattle.words.proofs.split.first_line.Goals as goal
 pub returns-in_err-end : goal.returns-in_err-end
 returns-in_err-end c =
     let none : IsNowhere 10 c.args.sheet.now = found 10 c.args.sheet.now None c.in_err-end.ensures in
-    rw c.from_residual.ensures none.back
+    rw c.from_residual.ensures (record { line = tt; after = tt; shorter = tt; unended = none.back })
 
 pub returns : goal.returns
 returns c =
@@ -14,4 +14,9 @@ returns c =
     let end = c.in_ok-end.end in
     let first : IsFirstAt 10 sheet end = found 10 sheet (Some end) c.in_ok-end.ensures in
     let rest = take_rest sheet (end + 1) in
-    (sym first.front, ap (λ ys. 10 ∷ ys) rest ∙ sym first.behind, omega (arith, first.within, ap length rest, length-drop (end + 1) sheet))
+    record {
+      line = sym first.front;
+      after = ap (λ ys. 10 ∷ ys) rest ∙ sym first.behind;
+      shorter = omega (arith, first.within, ap length rest, length-drop (end + 1) sheet);
+      unended = tt;
+    }
