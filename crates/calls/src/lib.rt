@@ -3,7 +3,7 @@
 // Parts of the bank and tasks are numbered from 1.
 #![tactic(auto)]
 
-ghost use Rattle.std.specs.Prelude.{◌≡◌, MatchResult};
+ghost use Rattle.std.specs.Prelude.{◌≡◌, ◌↔◌, true, MatchResult};
 ghost use Rattle.calls.specs.declared.Answer.TheVariants.{Done, Refused, Ticked};
 ghost use Rattle.calls.specs.Told.{told};
 ghost use Rattle.calls.specs.Guarantee.{Guaranteed};
@@ -97,6 +97,20 @@ impl Got {
             Got::Task(_, age) => age.unwrap_or(0),
         }
     }
+}
+
+// Whether two calls are the same: what `==` answers, on which tests rest.
+pub fn same_call(call: Call, other: Call) -> bool
+    ensures { (result ≡ true) ↔ (call ≡ other) }
+{
+    call == other
+}
+
+// Whether two answers are the same, alike.
+pub fn same_answer(answer: Answer, other: Answer) -> bool
+    ensures { (result ≡ true) ↔ (answer ≡ other) }
+{
+    answer == other
 }
 
 // That the log of every run of an accepted plan keeps both rules, whatever calls are made, is what this function promises: it is never

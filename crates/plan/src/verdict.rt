@@ -1,5 +1,5 @@
 // The judge's verdict on a plan.
-ghost use Rattle.std.specs.Prelude.{◌≡◌, ◌+◌, ◌<◌};
+ghost use Rattle.std.specs.Prelude.{◌≡◌, ◌↔◌, ◌+◌, ◌<◌, true};
 ghost use Rattle.plan.specs.Judged.{told, outcome_of, bounds_told};
 ghost use Rattle.plan.specs.declared.verdict.Verdict.TheVariants.{Late};
 
@@ -57,4 +57,11 @@ impl Verdict {
             _ => 0,
         }
     }
+}
+
+// Whether two verdicts are the same: what `==` answers, on which tests rest.
+pub fn same_verdict(verdict: Verdict, other: Verdict) -> bool
+    ensures { (result ≡ true) ↔ (verdict ≡ other) }
+{
+    verdict == other
 }

@@ -1,7 +1,7 @@
 // Why a call or a sheet is refused: the fault, and the line and the task that it is about.
 #![tactic(auto)]
 
-ghost use Rattle.std.specs.Prelude.{◌≡◌};
+ghost use Rattle.std.specs.Prelude.{◌≡◌, ◌↔◌, true};
 ghost use Rattle.refusal.specs.Refusals.{plain};
 ghost use Rattle.refusal.specs.Table.{row, told, first_of};
 
@@ -170,6 +170,13 @@ impl Refusal {
     {
         self.fault.layer()
     }
+}
+
+// Whether two refusals are the same: what `==` answers, on which tests rest.
+pub fn same_refusal(refusal: Refusal, other: Refusal) -> bool
+    ensures { (result ≡ true) ↔ (refusal ≡ other) }
+{
+    refusal == other
 }
 
 // A fault that is passed up becomes the refusal that is about no line and no task yet.
