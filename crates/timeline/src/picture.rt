@@ -34,7 +34,8 @@ fn add_task(heap: Global, text: &mut Vec<u8>, task: u32, log: &Log) -> Result<()
     add_line(text, &label, &task_row(heap, task, log)?)
 }
 
-// The timeline of a run with so many parts and tasks, as lines of text.
+// The timeline of a run with so many parts and tasks, as lines of text. An error says that there is no memory for it; nothing is left
+// of it then.
 pub fn draw(heap: Global, parts: u32, tasks: u32, log: &Log) -> Result<Vec<u8>, AllocError>
     ensures { IfOk result (λ text. text.items ≡ timeline parts tasks log.now) }
 {

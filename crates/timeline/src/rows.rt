@@ -1,5 +1,5 @@
 // The cells of a row.
-ghost use Rattle.std.specs.Prelude.{◌≡◌, [], IfOk, OnOk};
+ghost use Rattle.std.specs.Prelude.{◌≡◌, ◌≤◌, [], vec_len, vec_capacity, IfOk, OnOk, OnErr};
 ghost use Rattle.timeline.specs.Rows.{cells, ruler, part_cell, task_cell, part_row, task_row, RowOf, ShowsEnds};
 ghost use Rattle.timeline.specs.Tracks.{AddsCell};
 
@@ -8,14 +8,16 @@ use crate::tracks::{Backlog, Pending, Ruler, Track};
 use calls::{Answer, Call};
 use std::alloc::{AllocError, Global};
 
-// Adds to a row what a call adds to it, before which the track has come so far.
+// Adds to a row what a call adds to it, before which the track has come so far. It fails only where the row is full and finds no
+// memory to grow.
 fn add_cell<T: Track>(
     row: &mut Vec<u8>,
     track: &T,
     call: Call,
     answer: Answer,
 ) -> Result<(), AllocError>
-    ensures { OnOk result (AddsCell T.cell T.Went track.now call answer row.old.items row.new.items) }
+    ensures cell { OnOk result (AddsCell T.cell T.Went track.now call answer row.old.items row.new.items) }
+    ensures full { OnErr result (vec_capacity row.old ≤ vec_len row.old) }
 {
     if let (Call::Tick, Answer::Ticked(got)) = (call, answer) {
         row.push(track.mark(got))?;
@@ -43,7 +45,7 @@ pub(crate) fn ruler(heap: Global, log: &Log) -> Result<Vec<u8>, AllocError>
     row(heap, Ruler { next: 1 }, log)
 }
 
-// The row of a part.
+// The row of a part. An error says that there is no memory for the row, of which nothing is left then.
 pub fn part_row(heap: Global, part: u32, log: &Log) -> Result<Vec<u8>, AllocError>
     ensures row { IfOk result (λ row. row.items ≡ part_row part log.now) }
     ensures law { IfOk result (λ row. RowOf (part_cell part) log.now row.items) }
@@ -56,7 +58,7 @@ pub fn part_row(heap: Global, part: u32, log: &Log) -> Result<Vec<u8>, AllocErro
     row(heap, backlog, log)
 }
 
-// The row of a task.
+// The row of a task. An error says what one of `part_row` says.
 pub fn task_row(heap: Global, task: u32, log: &Log) -> Result<Vec<u8>, AllocError>
     ensures row { IfOk result (λ row. row.items ≡ task_row task log.now) }
     ensures law { IfOk result (λ row. RowOf (task_cell task) log.now row.items) }

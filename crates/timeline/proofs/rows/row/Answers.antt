@@ -32,7 +32,7 @@ loop-call-preserved g c =
     record {
       can_next = search rules;
       is_finite = search rules;
-      row = c.in_ok-add_cell.ensures track (log_to calls answers n) inv.went ∙ (λ j. inv.row j ++ added (g.T.Track.cell track (log_to calls answers n)) e.call e.answer) ∙ sym (cells_more (g.T.Track.cell track) [] (log_to calls answers n) e) ∙ ap (cells (g.T.Track.cell track) []) more;
+      row = c.in_ok-add_cell.ensures.cell track (log_to calls answers n) inv.went ∙ (λ j. inv.row j ++ added (g.T.Track.cell track (log_to calls answers n)) e.call e.answer) ∙ sym (cells_more (g.T.Track.cell track) [] (log_to calls answers n) e) ∙ ap (cells (g.T.Track.cell track) []) more;
       went = subst (λ log. g.T.Track.Went track log c.pass.new.self) more (c.pass.ensures track (log_to calls answers n) inv.went);
     }
 
