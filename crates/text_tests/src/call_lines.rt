@@ -67,12 +67,49 @@ fn lines_of_no_call(rt: HostRuntime) {
 
 #[test]
 fn answers(rt: HostRuntime) -> Result<(), Fail> {
-    let table: [(Answer, &str); 9] = [
+    let table: [(Answer, &str); 19] = [
         (Answer::Done, "done"),
         (Answer::Ticked(Got::Nobody), "tick nobody"),
         (Answer::Ticked(Got::Part(1)), "tick part 1"),
+        (Answer::Ticked(Got::Part(1000)), "tick part 1000"),
+        (
+            Answer::Ticked(Got::Part(4_294_967_295)),
+            "tick part 4294967295",
+        ),
         (Answer::Ticked(Got::Task(2, None)), "tick task 2"),
+        (
+            Answer::Ticked(Got::Task(4_294_967_295, None)),
+            "tick task 4294967295",
+        ),
         (Answer::Ticked(Got::Task(2, Some(7))), "tick task 2 ended 7"),
+        (
+            Answer::Ticked(Got::Task(16, Some(12))),
+            "tick task 16 ended 12",
+        ),
+        (
+            Answer::Ticked(Got::Task(9, Some(140))),
+            "tick task 9 ended 140",
+        ),
+        (
+            Answer::Ticked(Got::Task(16, Some(1_000_000))),
+            "tick task 16 ended 1000000",
+        ),
+        (
+            Answer::Ticked(Got::Task(4_294_967_295, Some(4_294_967_295))),
+            "tick task 4294967295 ended 4294967295",
+        ),
+        (
+            Answer::Refused(Refusal::plain(Fault::BufferTooShort)),
+            "refused 18 list 0 task 0",
+        ),
+        (
+            Answer::Refused(Refusal::new(Fault::BadWord, 16_384, 0)),
+            "refused 3 words 16384 task 0",
+        ),
+        (
+            Answer::Refused(Refusal::new(Fault::HoldAboveBlocking, 4_294_967_295, 4_294_967_295)),
+            "refused 8 plan 4294967295 task 4294967295",
+        ),
         (
             Answer::Refused(Refusal::new(Fault::JobPending, 0, 3)),
             "refused 17 run 0 task 3",
