@@ -2,10 +2,13 @@
 #![tactic(auto)]
 
 ghost use Rattle.std.specs.Prelude.{◌≡◌, ℕ, ◌<◌, ◌≤◌, length, None, Some, is_some, MatchResult, IfOk, OnOk, OnErr};
+ghost use Rattle.std.specs.List.{All};
 ghost use Rattle.std.specs.Option.{ForSome};
 ghost use Rattle.std.specs.Result.{result_err, result_ok};
 ghost use Rattle.source.specs.Facts.{Taken, Ticked};
+ghost use Rattle.paced.specs.Pace.{Fit};
 ghost use Rattle.plan.specs.Plans.{ByJudge};
+ghost use Rattle.plan.specs.Tasks.{rows_of};
 ghost use Rattle.run.specs.Faults.{range_fault, tick_fault, named_fault, offer_fault, release_fault, hold_fault, let_go_fault, end_fault, grantable};
 ghost use Rattle.run.specs.Faults.{offer_refusal, release_refusal, hold_refusal, let_go_refusal, end_refusal, tick_refusal};
 ghost use Rattle.run.specs.States.{hold_of};
@@ -109,10 +112,11 @@ impl<G: Gate> Run<G> {
     }
 
     // Whether the run takes calls: exactly if its plan is accepted. It also tells what the type keeps: that the run was started from a
-    // judged plan, and what its backlogs, jobs and hold keep to.
+    // judged plan, what its backlogs, jobs and hold keep to, and that the paced parts of its tasks keep to what every paced part keeps to.
     pub fn takes_calls(&self) -> bool
         ensures answer { result ≡ is_some self.now.parts }
         ensures held { Held G.work self.now }
+        ensures paced { All Fit (rows_of self.now.tasks) }
     {
         self.terms.parts.is_some()
     }
