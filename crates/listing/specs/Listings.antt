@@ -1,5 +1,5 @@
 -- The text of each kind of listing, and why one is not written.
-use Rattle.std.specs.Prelude.{ℕ, List, ◌++◌, Ok, Err, Result, length}
+use Rattle.std.specs.Prelude.{ℕ, ◌≤◌, List, ◌++◌, Ok, Err, Result, length}
 use Rattle.refusal.specs.declared.Fault.TheVariants.{BufferTooShort}
 use Rattle.refusal.specs.declared.Refusal.{Refusal}
 use Rattle.listing.specs.declared.marks.TaskMark.{TaskMark}
@@ -9,6 +9,11 @@ use Rattle.listing.specs.Texts.{accepted_line, part_lines, task_lines, refusal_t
 pub record Marked : Type 0 where
   pub parts : List ℕ
   pub tasks : List TaskMark
+
+-- at most as many parts and tasks as a plan has
+pub record Few (marks : Marked) : Type 0 where
+  pub parts : length marks.parts ≤ 9
+  pub tasks : length marks.tasks ≤ 16
 
 -- the count of the tasks, then the parts, then the tasks
 abbrev pub marks_text : Marked → List ℕ

@@ -1,5 +1,6 @@
 // What a listing tells.
 ghost use Rattle.std.specs.Prelude.{◌≡◌, ◌+◌, ◌^◌, ◌<◌, ◌≤◌, [], ◌∷◌, ◌++◌, true, false, length, nat_lt, slice_set};
+ghost use Rattle.listing.specs.Listings.{Few};
 
 use refusal::Refusal;
 use std::marker::Model;
@@ -86,6 +87,7 @@ impl Marks {
         ensures answer { result ≡ nat_lt (length self.old.parts) 9 }
         ensures added { result ≡ true → self.new ≡ record self.old { parts = self.old.parts ++ load ∷ [] } }
         ensures refused { result ≡ false → self.new ≡ self.old }
+        ensures few { Few self.old }
     {
         push(&mut self.parts, &mut self.part_count, load)
     }
@@ -95,6 +97,7 @@ impl Marks {
         ensures answer { result ≡ nat_lt (length self.old.tasks) 16 }
         ensures added { result ≡ true → self.new ≡ record self.old { tasks = self.old.tasks ++ mark ∷ [] } }
         ensures refused { result ≡ false → self.new ≡ self.old }
+        ensures few { Few self.old }
     {
         push(&mut self.tasks, &mut self.task_count, mark)
     }
