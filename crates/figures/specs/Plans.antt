@@ -10,7 +10,7 @@ use Rattle.paced.specs.Tables.{work_in}
 use Rattle.schedule.specs.Phases.{Timetable, timetables}
 use Rattle.plan.specs.Judged.{Bounded, Judged}
 use Rattle.plan.specs.Tasks.{Task, made}
-use Rattle.plan.specs.declared.verdict.Verdict.TheVariants.{Late}
+use Rattle.plan.specs.declared.verdict.Verdict.TheVariants.{Accepted, Late}
 use Rattle.sheet.specs.Marking.{Listed}
 use Rattle.figures.specs.Worked.{early, jittery}
 
@@ -59,12 +59,14 @@ listing_lines =
     ∷ codes "task 2 bound 12 deadline 40 load 334"
     ∷ []
 
--- with deadline 15 the sample plan is accepted: its first task has bound 11, and its second 12
+-- with deadline 15 the first task of the sample plan has bound 11
 abbrev pub FirstBound : Type 0
 FirstBound = Bounded bank (tasks 15) 0 11
 
-abbrev pub SecondBound : Type 0
-SecondBound = Bounded bank (tasks 15) 1 12
+-- and its second has bound 12, so the plan is accepted with these two
+pub record SecondBound : Type 0 where
+  pub bound : Bounded bank (tasks 15) 1 12
+  pub judged : Judged bank (tasks 15) (Accepted 2) (11 ∷ 12 ∷ [])
 
 -- with deadline 10 it is refused for task 1, as a plan and as a sheet
 pub record TooLate : Type 0 where
