@@ -1,2 +1,3 @@
+pub mod Laws
 pub mod Table
 pub mod Refusals

@@ -17,6 +17,11 @@ abbrev pub refusal_of : Option Fault → ℕ → Option Refusal
 refusal_of None i = None
 refusal_of (Some f) i = Some (about i f)
 
+-- the fault of a refusal that may be there
+abbrev pub fault_in : Option Refusal → Option Fault
+fault_in None = None
+fault_in (Some r) = Some r.fault
+
 -- the refusal of a call that names task i: it tells the task if the fault is one that has a task
 abbrev pub named_refusal : Option Fault → ℕ → Option Refusal
 named_refusal None i = None

@@ -106,7 +106,8 @@ impl Fault {
     }
 }
 
-// Of two faults that may be there, the one with the smaller number: where several rules are broken, it is given.
+// Of two faults that may be there, the one with the smaller number: where several rules are broken, it is given. If each of the two is
+// what is given for one thing, this is what is given for both: `both_broken` of proofs/Firsts.antt proves it, for any rules.
 pub fn first_fault(a: Option<Fault>, b: Option<Fault>) -> Option<Fault>
     ensures { result ≡ first_of a b }
 {
