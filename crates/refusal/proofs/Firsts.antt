@@ -1,7 +1,7 @@
 -- Which options keep to the law of refusals.
-use Rattle.std.proofs.Common.{◌≡◌, ◌↔◌, ℕ, ◌⊎◌, ◌≤◌, ◌<◌, ◌&&◌, Bool, true, false, cond, not, eqb, leb, ltb, List, [], ◌∷◌, Option, Some, None, refl, sym, ◌∙◌, subst, inl, inr, arith}
+use Rattle.std.proofs.Common.{◌≡◌, ◌↔◌, ℕ, ◌⊎◌, ◌≤◌, ◌&&◌, ◌||◌, Bool, true, false, cond, not, eqb, leb, List, [], ◌∷◌, Option, Some, None, refl, sym, ◌∙◌, subst, inl, inr, arith}
 use Rattle.std.specs.Option.{option_or}
-use Rattle.std.proofs.lemmas.Bool.{cases_Bool, leb-true, ltb-true, eqb-true, eq-eqb, ne_eqb, cond-true, cond-false, and_parts}
+use Rattle.std.proofs.lemmas.Bool.{cases_Bool, leb-true, eqb-true, eq-eqb, cond-true, cond-false, and_parts}
 use Rattle.std.proofs.lemmas.Bool.Decides.{nat_tests}
 use Rattle.refusal.specs.Laws.{FirstBroken}
 use Rattle.refusal.specs.Refusals.{refusal_of, named_refusal, fault_in}
@@ -51,48 +51,39 @@ first_failed (t ∷ ts) = cond t.1 (first_failed ts) (Some t.0)
 -- and of those that stand for f, one is not passed
 abbrev pub fails : List (Fault × Bool) → Fault → Bool
 fails [] f = false
-fails (t ∷ ts) f = cond (eqb (row t.0).number (row f).number) (not t.1) (fails ts f)
+fails (t ∷ ts) f = cond (eqb (row t.0).number (row f).number) (not t.1 || fails ts f) (fails ts f)
 
--- the numbers of the faults rise
+-- the numbers of the faults never fall
 abbrev pub rising : List (Fault × Bool) → Bool
 rising [] = true
 rising (t ∷ []) = true
-rising (t ∷ s ∷ ts) = ltb (row t.0).number (row s.0).number && rising (s ∷ ts)
+rising (t ∷ s ∷ ts) = leb (row t.0).number (row s.0).number && rising (s ∷ ts)
 
--- what a later test stands for has a larger number
-later_larger : (t : Fault × Bool) (ts : List (Fault × Bool)) (f : Fault) → rising (t ∷ ts) ≡ true → fails ts f ≡ true → (row t.0).number < (row f).number
-later_larger t [] f up e = cc
-later_larger t (s ∷ ts) f up e =
-    let parts = and_parts (ltb (row t.0).number (row s.0).number) (rising (s ∷ ts)) up in
-    let less : (row t.0).number < (row s.0).number = ltb-true (row t.0).number (row s.0).number parts.0 in
-    elim (cases_Bool (eqb (row s.0).number (row f).number)) [
-      | inl here ↦ omega (arith, less, eqb-true (row s.0).number (row f).number here)
-      | inr other ↦ omega (arith, less, later_larger s ts f parts.1 (sym (cond-false (eqb (row s.0).number (row f).number) (not s.1) (fails ts f) other) ∙ e))
+-- what a test or a later one stands for has no smaller number
+none_smaller : (t : Fault × Bool) (ts : List (Fault × Bool)) (f : Fault) → rising (t ∷ ts) ≡ true → fails (t ∷ ts) f ≡ true → (row t.0).number ≤ (row f).number
+none_smaller t [] f up e = elim (cases_Bool (eqb (row t.0).number (row f).number)) [
+  | inl here ↦ omega (arith, eqb-true (row t.0).number (row f).number here)
+  | inr other ↦ (let z = sym (cond-false (eqb (row t.0).number (row f).number) (not t.1 || false) false other) ∙ e in cc)
+]
+none_smaller t (s ∷ ts) f up e =
+    let parts = and_parts (leb (row t.0).number (row s.0).number) (rising (s ∷ ts)) up in
+    elim (cases_Bool (eqb (row t.0).number (row f).number)) [
+      | inl here ↦ omega (arith, eqb-true (row t.0).number (row f).number here)
+      | inr other ↦ omega (arith, leb-true (row t.0).number (row s.0).number parts.0, none_smaller s ts f parts.1 (sym (cond-false (eqb (row t.0).number (row f).number) (not t.1 || fails (s ∷ ts) f) (fails (s ∷ ts) f) other) ∙ e))
     ]
 
 rising_rest : (t : Fault × Bool) (ts : List (Fault × Bool)) → rising (t ∷ ts) ≡ true → rising ts ≡ true
 rising_rest t [] up = refl
-rising_rest t (s ∷ ts) up = (and_parts (ltb (row t.0).number (row s.0).number) (rising (s ∷ ts)) up).1
+rising_rest t (s ∷ ts) up = (and_parts (leb (row t.0).number (row s.0).number) (rising (s ∷ ts)) up).1
+
+either_way : (b x : Bool) → cond b x x ≡ x
+either_way true x = refl
+either_way false x = refl
 
 tests_fail : (ts : List (Fault × Bool)) → rising ts ≡ true → FirstBroken (λ f. fails ts f ≡ true) (first_failed ts)
 tests_fail [] up = none_broken (λ f. false ≡ true) (λ f e. cc)
-tests_fail ((f, true) ∷ ts) up = same_broken (λ g. fails ts g ≡ true) (λ g. fails ((f, true) ∷ ts) g ≡ true) (first_failed ts) same (tests_fail ts (rising_rest (f, true) ts up))
-  where
-    same : (g : Fault) → (fails ts g ≡ true) ↔ (fails ((f, true) ∷ ts) g ≡ true)
-    same g = (
-      (λ e. cond-false (eqb (row f).number (row g).number) false (fails ts g) (ne_eqb (row f).number (row g).number (λ i. omega (arith, later_larger (f, true) ts g up e, i))) ∙ e),
-      (λ e. elim (cases_Bool (eqb (row f).number (row g).number)) [
-        | inl here ↦ (let z = sym (cond-true (eqb (row f).number (row g).number) false (fails ts g) here) ∙ e in cc)
-        | inr other ↦ sym (cond-false (eqb (row f).number (row g).number) false (fails ts g) other) ∙ e
-      ]),
-    )
-tests_fail ((f, false) ∷ ts) up = some_broken (λ g. fails ((f, false) ∷ ts) g ≡ true) f (cond-true (eqb (row f).number (row f).number) true (fails ts f) (eq-eqb (row f).number (row f).number refl)) least
-  where
-    least : (g : Fault) → fails ((f, false) ∷ ts) g ≡ true → (row f).number ≤ (row g).number
-    least g e = elim (cases_Bool (eqb (row f).number (row g).number)) [
-      | inl here ↦ omega (arith, eqb-true (row f).number (row g).number here)
-      | inr other ↦ omega (arith, later_larger (f, false) ts g up (sym (cond-false (eqb (row f).number (row g).number) true (fails ts g) other) ∙ e))
-    ]
+tests_fail ((f, true) ∷ ts) up = same_broken (λ g. fails ts g ≡ true) (λ g. fails ((f, true) ∷ ts) g ≡ true) (first_failed ts) (λ g. let e = either_way (eqb (row f).number (row g).number) (fails ts g) in ((λ h. e ∙ h), (λ h. sym e ∙ h))) (tests_fail ts (rising_rest (f, true) ts up))
+tests_fail ((f, false) ∷ ts) up = some_broken (λ g. fails ((f, false) ∷ ts) g ≡ true) f (cond-true (eqb (row f).number (row f).number) true (fails ts f) (eq-eqb (row f).number (row f).number refl)) (λ g e. none_smaller (f, false) ts g up e)
 
 -- tests with rising numbers, of which one is not passed just if its rule is broken
 pub tests_broken : (A : Fault → Type 0) (ts : List (Fault × Bool)) → rising ts ≡ true → ((f : Fault) → (fails ts f ≡ true) ↔ A f) → FirstBroken A (first_failed ts)
