@@ -1,3 +1,4 @@
+pub mod Breaking
 pub mod Makings
 pub mod Runs
 pub mod Ticks

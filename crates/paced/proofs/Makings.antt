@@ -1,10 +1,11 @@
 -- What a paced part is made of.
-use Rattle.std.proofs.Common.{◌≡◌, ℕ, zero, suc, ◌+◌, ◌-◌, ◌≤◌, Bool, true, false, cond, ◌&&◌, ltb, leb, List, [], ◌∷◌, ◌++◌, length, get_or, replicate, Some, None, Option, refl, ap, ◌∙◌, arith}
+use Rattle.std.proofs.Common.{◌≡◌, ℕ, zero, suc, ◌+◌, ◌-◌, ◌≤◌, ◌<◌, sym, Bool, true, false, cond, ◌&&◌, ltb, leb, List, [], ◌∷◌, ◌++◌, length, get_or, replicate, Some, None, Option, refl, ap, ◌∙◌, arith}
 use Rattle.std.proofs.lemmas.List.{length-append, length-replicate}
 use Rattle.std.proofs.lemmas.Bool.{leb-true, ltb-true, and_parts}
+use Rattle.refusal.specs.declared.Fault.{Fault}
 use Rattle.refusal.specs.declared.Fault.TheVariants.{TooMany, OutOfRange, Misfit}
 use Rattle.paced.specs.Pace.{Fit}
-use Rattle.paced.specs.Makes.{Asked, in_range, all_in_range, given_right, fault_of, fresh}
+use Rattle.paced.specs.Makes.{Asked, in_range, all_in_range, given_right, fault_of, fresh, adding}
 
 -- what no fault is found with makes a part that is fit
 
@@ -57,3 +58,12 @@ fresh_fit a e =
 
     held : length (a.costs ++ replicate (8 - length a.costs) 0) ≡ 8
     held = length-append a.costs (replicate (8 - length a.costs) 0) ∙ ap (λ n. length a.costs + n) (length-replicate (8 - length a.costs) 0) ∙ omega (arith, few)
+
+-- where no fault is found with one part more there is room for it, and none is found with its pace
+pub clean_pace : (most n : ℕ) (a : Asked) (x : Option Fault) → x ≡ adding most n a → x ≡ None → (n < most) × (length a.costs ≤ 8) × Fit (fresh a)
+clean_pace most n a x e none =
+    let few = passed (leb (length a.costs) 8) (cond (given_right a) (cond (ltb a.jitter a.period) None (Some Misfit)) (Some OutOfRange)) TooMany parts.1 in
+    (ltb-true n most parts.0, leb-true (length a.costs) 8 few.0, fresh_fit a parts.1)
+  where
+    parts : (ltb n most ≡ true) × (fault_of a ≡ None)
+    parts = passed (ltb n most) (fault_of a) TooMany (sym e ∙ none)

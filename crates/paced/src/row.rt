@@ -1,8 +1,9 @@
 // One row of paced work, and what a table of such rows asks of each.
 ghost use Rattle.std.specs.Prelude.{◌≡◌, ℕ, ◌-◌, ◌<◌, ◌≤◌, ◌++◌, length, replicate, IfOk, if◌then◌else◌, nat_le, nat_lt};
 ghost use Rattle.std.specs.Result.{result_err};
+ghost use Rattle.refusal.specs.Laws.{FirstBroken};
 ghost use Rattle.cycles.specs.Round.{sum, top};
-ghost use Rattle.paced.specs.Makes.{asked, in_range, all_in_range, given_right, fault_of, fresh};
+ghost use Rattle.paced.specs.Makes.{asked, in_range, all_in_range, given_right, fault_of, fresh, PaceBreaks};
 ghost use Rattle.paced.specs.Loads.{row_load};
 ghost use Rattle.paced.specs.Pace.{largest_cost, coming, demand, allowance, given, later, Fit};
 ghost use Rattle.paced.specs.Runs.{at, largest as largest_sum};
@@ -129,8 +130,10 @@ impl Pace<'_> {
     }
 
     // What is wrong with a paced part of these numbers, if anything is: an option, as `first_fault` takes two.
+    #[tactic(auto, using(crate::proofs::Breaking::pace_many, crate::proofs::Breaking::pace_range, crate::proofs::Breaking::pace_misfit, crate::proofs::Breaking::pace_fine))]
     pub fn fault(self) -> Option<Fault>
-        ensures { result ≡ fault_of (asked self.entry) }
+        ensures answer { result ≡ fault_of (asked self.entry) }
+        ensures first { FirstBroken (PaceBreaks (asked self.entry)) result }
     {
         if self.costs.len() > 8 {
             return Some(Fault::TooMany);
@@ -145,7 +148,7 @@ impl Pace<'_> {
     }
 
     // A row of these numbers, with level and place 0.
-    fn fresh_row(self) -> Row
+    pub(crate) fn fresh_row(self) -> Row
         requires { length self.costs.now ≤ 8 }
         ensures { result ≡ fresh (asked self.entry) }
     {
@@ -162,9 +165,11 @@ impl Pace<'_> {
 
 impl Row {
     // A paced part with level and place 0, or what is wrong with the numbers.
+    #[tactic(auto, using(crate::proofs::Makings::fresh_fit))]
     pub fn new(pace: Pace) -> Result<Row, Fault>
         ensures answer { result_err result ≡ fault_of (asked pace.entry) }
         ensures made { IfOk result (λ row. row ≡ fresh (asked pace.entry)) }
+        ensures first { FirstBroken (PaceBreaks (asked pace.entry)) (result_err result) }
         ensures fit { IfOk result Fit }
     {
         pace.fault().map_or(Ok(()), Err)?;

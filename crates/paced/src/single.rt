@@ -1,10 +1,11 @@
 // One paced part by itself.
 ghost use Rattle.std.specs.Prelude.{◌≡◌, IfOk};
 ghost use Rattle.std.specs.Result.{result_err};
-ghost use Rattle.refusal.specs.Refusals.{refusal_of};
+ghost use Rattle.refusal.specs.Laws.{FirstBroken};
+ghost use Rattle.refusal.specs.Refusals.{refusal_of, fault_in};
 ghost use Rattle.source.proofs.Gates.{one_sound, one_taken, one_ticked};
 ghost use Rattle.source.specs.Rows.{work_one, allowed_one, GivesOne};
-ghost use Rattle.paced.specs.Makes.{asked, fault_of, fresh};
+ghost use Rattle.paced.specs.Makes.{asked, fault_of, fresh, PaceBreaks};
 ghost use Rattle.paced.specs.Pace.{later, Fit, paced};
 ghost use Rattle.paced.specs.Rows.{paced_owes};
 
@@ -34,6 +35,7 @@ impl Paced {
     pub fn new(pace: Pace) -> Result<Paced, Refusal>
         ensures answer { result_err result ≡ refusal_of (fault_of (asked pace.entry)) 0 }
         ensures made { IfOk result (λ part. part.row ≡ fresh (asked pace.entry)) }
+        ensures first { FirstBroken (PaceBreaks (asked pace.entry)) (fault_in (result_err result)) }
     {
         let row = Row::new(pace)?;
         Ok(Paced { row })

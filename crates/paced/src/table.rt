@@ -2,10 +2,11 @@
 ghost use Rattle.std.specs.Prelude.{◌≡◌, ℕ, ◌-◌, ◌<◌, ◌≤◌, ◌++◌, [], ◌∷◌, All, min, length, take, Some, None, MatchOption, IfSome, OnOk, OnErr, nat_lt, slice_set};
 ghost use Rattle.std.specs.Result.{result_err};
 ghost use Rattle.std.proofs.Common.{arith};
+ghost use Rattle.refusal.specs.Laws.{FirstBroken};
 ghost use Rattle.source.proofs.Gates.{list_sound, list_taken, list_ticked};
 ghost use Rattle.source.specs.Rows.{Gives, Passes};
 ghost use Rattle.paced.specs.Loads.{row_load};
-ghost use Rattle.paced.specs.Makes.{asked, adding, fresh};
+ghost use Rattle.paced.specs.Makes.{asked, adding, fresh, PartBreaks};
 ghost use Rattle.paced.specs.Pace.{Fit, largest_cost, paced};
 ghost use Rattle.paced.specs.Rows.{paced_owes};
 ghost use Rattle.paced.specs.Tables.{part_at, told_of, work_in, allowances_in};
@@ -73,14 +74,22 @@ impl<const ROOM: usize> Table<ROOM> {
         self.rows().get(place as usize)
     }
 
-    // What is wrong with one part more, if anything is: an option, as `first_fault` takes two.
-    pub fn fault(&self, pace: Pace) -> Option<Fault>
+    // What is wrong with one part more, by the first test that is not passed.
+    fn found(&self, pace: Pace) -> Option<Fault>
         ensures { result ≡ adding (min ROOM 1000) (length self.now.list) (asked pace.entry) }
     {
         if !self.has_room() {
             return Some(Fault::TooMany);
         }
         pace.fault()
+    }
+
+    // What is wrong with one part more, if anything is: an option, as `first_fault` takes two.
+    pub fn fault(&self, pace: Pace) -> Option<Fault>
+        ensures answer { result ≡ adding (min ROOM 1000) (length self.now.list) (asked pace.entry) }
+        ensures first { FirstBroken (PartBreaks (min ROOM 1000) (length self.now.list) (asked pace.entry)) result }
+    {
+        self.found(pace)
     }
 
     // The largest cost of a part, or None if there is no such part.
@@ -114,11 +123,10 @@ impl<const ROOM: usize> Table<ROOM> {
         ensures answer { result_err result ≡ adding (min ROOM 1000) (length self.old.list) (asked pace.entry) }
         ensures added { OnOk result (self.new.list ≡ self.old.list ++ fresh (asked pace.entry) ∷ []) }
         ensures refused { OnErr result (self.new ≡ self.old) }
+        ensures first { FirstBroken (PartBreaks (min ROOM 1000) (length self.old.list) (asked pace.entry)) (result_err result) }
     {
-        if !self.has_room() {
-            return Err(Fault::TooMany);
-        }
-        let row = Row::new(pace)?;
+        self.fault(pace).map_or(Ok(()), Err)?;
+        let row = pace.fresh_row();
         let mut grown = self.rows;
         grown[self.count as usize] = row;
         self.rows = grown;
