@@ -3,8 +3,9 @@
 
 ghost use Rattle.std.specs.Prelude.{◌≡◌, IfOk, OnOk, OnErr};
 ghost use Rattle.std.specs.Result.{result_err};
-ghost use Rattle.refusal.specs.Refusals.{refusal_of};
-ghost use Rattle.paced.specs.Makes.{asked, fault_of, fresh};
+ghost use Rattle.refusal.specs.Laws.{FirstBroken};
+ghost use Rattle.refusal.specs.Refusals.{refusal_of, fault_in};
+ghost use Rattle.paced.specs.Makes.{asked, fault_of, fresh, PaceBreaks};
 ghost use Rattle.arrivals.specs.Steps.{answer, after, played, moved};
 ghost use Rattle.arrivals.specs.Times.{AllAnswered};
 
@@ -60,6 +61,7 @@ pub fn replay(pace: Pace, steps: &[Step], taken: &mut [bool]) -> Result<Paced, R
     ensures refused { OnErr result (taken.new ≡ taken.old) }
     ensures played { OnOk result (taken.new ≡ played (fresh (asked pace.entry)) steps.now taken.old) }
     ensures moved { IfOk result (λ part. part.row ≡ moved (fresh (asked pace.entry)) steps.now taken.old) }
+    ensures first { FirstBroken (PaceBreaks (asked pace.entry)) (fault_in (result_err result)) }
     ensures explained { OnOk result (AllAnswered (asked pace.entry) steps.now taken.new) }
 {
     let mut part = Paced::new(pace)?;
