@@ -1,12 +1,13 @@
 // The fixed schedule of functions that a panel repeats.
-ghost use Rattle.std.specs.Prelude.{◌≡◌, ◌+◌, ◌<◌, ◌≤◌, length, take, IfOk, OnOk, OnErr};
+ghost use Rattle.std.specs.Prelude.{◌≡◌, ◌+◌, ◌<◌, ◌≤◌, length, take, IfOk, IsTrue, OnOk, OnErr};
 ghost use Rattle.std.specs.Result.{result_err};
 ghost use Rattle.cycles.specs.Round.{next};
 ghost use Rattle.loads.specs.Share.{load_of};
 ghost use Rattle.source.specs.Rows.{work_one, allowed_one, GivesOne};
 ghost use Rattle.source.proofs.Gates.{one_sound, one_taken, one_ticked};
-ghost use Rattle.refusal.specs.Refusals.{refusal_of};
-ghost use Rattle.schedule.specs.Makes.{cycle_fault, opened, follows, pair_fault, with_pair};
+ghost use Rattle.refusal.specs.Laws.{FirstBroken};
+ghost use Rattle.refusal.specs.Refusals.{refusal_of, fault_in};
+ghost use Rattle.schedule.specs.Makes.{cycle_fault, opened, follows, pair_fault, with_pair, CycleBreaks, PairBreaks};
 ghost use Rattle.schedule.specs.Phases.{total_length, demand, allowance, later, timetables, Fit, FitTimetable};
 ghost use Rattle.schedule.specs.Timetables.{timetables_owe};
 
@@ -55,6 +56,7 @@ impl Schedule {
     pub fn new(cycle: u32) -> Result<Schedule, Refusal>
         ensures answer { result_err result ≡ refusal_of (cycle_fault cycle) 0 }
         ensures made { IfOk result (λ schedule. schedule.timetable ≡ opened cycle) }
+        ensures first { FirstBroken (CycleBreaks cycle) (fault_in (result_err result)) }
     {
         if cycle < 1 || cycle > LONGEST {
             return Err(Refusal::plain(Fault::OutOfRange));
@@ -78,6 +80,25 @@ impl Schedule {
         offset < self.cycle && used.last().is_none_or(|last| last.offset < offset)
     }
 
+    // Whether one more pair can be added, or what is wrong with it, by the first test that is not passed.
+    fn check(&self, offset: u32, units: u32) -> Result<(), Fault>
+        ensures answer { result_err result ≡ pair_fault self.now.timetable offset units }
+        ensures room { OnOk result (length self.now.timetable.pairs < 64) }
+        ensures small { OnOk result (units ≤ 1000000) }
+        ensures follows { OnOk result (IsTrue (follows self.now.timetable.cycle self.now.timetable.pairs offset)) }
+    {
+        if self.count >= PAIRS {
+            return Err(Fault::TooMany);
+        }
+        if offset > LONGEST || units < 1 || units > LONGEST {
+            return Err(Fault::OutOfRange);
+        }
+        if !self.follows(offset) {
+            return Err(Fault::Misfit);
+        }
+        Ok(())
+    }
+
     // The sum of all lengths, with that of one pair more.
     #[tactic(auto, using(crate::proofs::Slots::sum_small))]
     fn whole_with(&self, slot: Slot) -> u32
@@ -90,21 +111,13 @@ impl Schedule {
 
     // One pair more behind the others, or a refusal: a 65th pair; a length of 0 or a number above 1,000,000; an offset
     // that is not below the cycle or not above that of the last pair.
-    #[tactic(auto, using(crate::proofs::Slots::grown_kept))]
     pub fn add(&mut self, offset: u32, length: u32) -> Result<(), Refusal>
         ensures answer { result_err result ≡ refusal_of (pair_fault self.old.timetable offset length) 0 }
         ensures added { OnOk result (self.new.timetable ≡ with_pair self.old.timetable offset length) }
         ensures refused { OnErr result (self.new ≡ self.old) }
+        ensures first { FirstBroken (PairBreaks self.old.timetable offset length) (fault_in (result_err result)) }
     {
-        if self.count >= PAIRS {
-            return Err(Refusal::plain(Fault::TooMany));
-        }
-        if offset > LONGEST || length < 1 || length > LONGEST {
-            return Err(Refusal::plain(Fault::OutOfRange));
-        }
-        if !self.follows(offset) {
-            return Err(Refusal::plain(Fault::Misfit));
-        }
+        self.check(offset, length)?;
         let slot = Slot { offset, length };
         let whole = self.whole_with(slot);
         let mut slots = self.slots;
