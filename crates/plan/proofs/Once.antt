@@ -20,7 +20,7 @@ same_smallest f w w' a b =
     ]
 
 module _ (bank : Work) (tasks : List Task) where
-  not_both : (i w : ℕ) → Bounded bank tasks i w → Unbounded bank tasks i → ⊥
+  pub not_both : (i w : ℕ) → Bounded bank tasks i w → Unbounded bank tasks i → ⊥
   not_both i w b u = omega (arith, b.0.holds, u w b.0.some b.1)
 
   -- the task with number k has no window, and the tasks before k' have one

@@ -1,6 +1,8 @@
 -- What the judge finds: the verdict on a plan.
-use Rattle.std.specs.Prelude.{◌≡◌, ℕ, ◌+◌, ◌-◌, ◌<◌, ◌≤◌, ◌⊎◌, List, None, Ok, Err, Result, length, slice_index}
+use Rattle.std.specs.Prelude.{◌≡◌, ℕ, ◌+◌, ◌-◌, ◌<◌, ◌≤◌, ◌⊎◌, List, Some, None, Option, Ok, Err, Result, length, slice_index}
 use Rattle.refusal.specs.Refusals.{about, plain}
+use Rattle.refusal.specs.Table.{row}
+use Rattle.refusal.specs.declared.Fault.{Fault}
 use Rattle.refusal.specs.declared.Fault.TheVariants as faults
 use Rattle.refusal.specs.declared.Refusal.{Refusal}
 use Rattle.source.specs.Facts.{Work}
@@ -9,16 +11,16 @@ use Rattle.plan.specs.Tasks.{Task, task_at, rows_of}
 use Rattle.plan.specs.declared.verdict.Verdict.{Verdict}
 use Rattle.plan.specs.declared.verdict.Verdict.TheVariants.{Accepted, NotJudgeable, Late}
 
--- the number of the refusal that a verdict stands for, 0 if it is none, and its value: how many tasks are accepted, or which
--- task, counted from 1, is the first without a window
-pub record Told : Type 0 where
-  pub number : ℕ
-  pub value : ℕ
+-- the fault that a verdict stands for, if it refuses the plan
+abbrev pub fault_told : Verdict → Option Fault
+fault_told (Accepted n) = None
+fault_told NotJudgeable = Some faults.NotJudgeable
+fault_told (Late i) = Some faults.NoWindow
 
-abbrev pub told : Verdict → Told
-told (Accepted n) = record { number = 0; value = n }
-told NotJudgeable = record { number = 9; value = 0 }
-told (Late i) = record { number = 10; value = i }
+-- its number, 0 without a fault
+abbrev pub number_told : Option Fault → ℕ
+number_told None = 0
+number_told (Some f) = (row f).number
 
 -- the count of tasks, or the refusal, which is about no line yet
 abbrev pub outcome_of : Verdict → Result ℕ Refusal
@@ -46,6 +48,12 @@ module _ (bank : Work) (tasks : List Task) where
   -- task i has no window within its deadline
   abbrev pub Unbounded : ℕ → Type 0
   Unbounded i = Searched (needed bank tasks i) (task_at tasks i).limit.deadline None
+
+  -- which rules a plan of these tasks breaks: it has no task, or its bank more than 16 parts; some task has no window within its deadline
+  unfoldable pub PlanBreaks : Fault → Type 0
+  PlanBreaks faults.NotJudgeable = (length tasks ≡ 0) ⊎ (16 < bank.parts)
+  PlanBreaks faults.NoWindow = (i : ℕ) × (i < length tasks) × Unbounded i
+  PlanBreaks other = ⊥
 
   -- the verdict on these tasks below that bank, and the bounds that go with it
   abbrev pub Judged : Verdict → List ℕ → Type 0

@@ -1,6 +1,7 @@
 // The judge: task after task, from the highest on, until one has no window within its deadline.
 ghost use Rattle.std.specs.Prelude.{◌≡◌, ℕ, ◌<◌, ◌≤◌, length, slice_index};
-ghost use Rattle.plan.specs.Judged.{Bounded, Unbounded, Judged, Filled, OnlyJudged, StaysAccepted};
+ghost use Rattle.refusal.specs.Laws.{FirstBroken};
+ghost use Rattle.plan.specs.Judged.{Bounded, Unbounded, Judged, Filled, OnlyJudged, StaysAccepted, PlanBreaks, fault_told};
 ghost use Rattle.plan.specs.Tasks.{Fitting};
 
 use crate::stages::OpenPlan;
@@ -73,6 +74,7 @@ impl<S: Source> OpenPlan<S> {
         ensures filled { Filled (S.work self.now.bank) self.now.tasks result.verdict result.bounds }
         ensures only { OnlyJudged (S.work self.now.bank) self.now.tasks result.verdict result.bounds }
         ensures stays { StaysAccepted (S.work self.now.bank) self.now.tasks result.verdict result.bounds }
+        ensures first { FirstBroken (PlanBreaks (S.work self.now.bank) self.now.tasks) (fault_told result.verdict) }
         ensures fitting { Fitting self.now.tasks }
     {
         self.find()

@@ -1,10 +1,11 @@
 // A plan from open to judged. Each stage is used up by the next, so a judged plan takes no more tasks.
 ghost use Rattle.std.specs.Prelude.{◌≡◌, ◌+◌, min, ◌++◌, [], ◌∷◌, length, take, drop, OnOk, OnErr};
 ghost use Rattle.std.specs.Result.{result_err};
-ghost use Rattle.refusal.specs.Refusals.{refusal_of};
+ghost use Rattle.refusal.specs.Laws.{FirstBroken};
+ghost use Rattle.refusal.specs.Refusals.{refusal_of, fault_in};
 ghost use Rattle.paced.specs.Makes.{asked};
-ghost use Rattle.plan.specs.Judged.{Judged, Filled, OnlyJudged, StaysAccepted, bounds_told};
-ghost use Rattle.plan.specs.Limits.{task_fault};
+ghost use Rattle.plan.specs.Judged.{Judged, Filled, OnlyJudged, StaysAccepted, PlanBreaks, bounds_told, fault_told};
+ghost use Rattle.plan.specs.Limits.{task_fault, TaskBreaks};
 ghost use Rattle.plan.specs.Plans.{ByJudge};
 ghost use Rattle.plan.specs.Tasks.{Fitting, made};
 
@@ -93,14 +94,9 @@ impl<S> OpenPlan<S> {
         ensures bank { self.new.bank ≡ self.old.bank }
         ensures added { OnOk result (self.new.tasks ≡ self.old.tasks ++ made (asked pace.entry) limit ∷ []) }
         ensures refused { OnErr result (self.new ≡ self.old) }
+        ensures first { FirstBroken (TaskBreaks self.old.tasks (asked pace.entry) limit) (fault_in (result_err result)) }
     {
-        let task = self.tasks.count() + 1;
-        self.tasks.add(pace, limit).map_err(|fault| Refusal {
-            fault,
-            line: 0,
-            task,
-        })?;
-        Ok(())
+        self.tasks.add(pace, limit)
     }
 }
 
@@ -112,6 +108,7 @@ impl<S: Source> OpenPlan<S> {
         ensures filled { Filled (S.work self.bank) self.tasks result.verdict result.bounds }
         ensures only { OnlyJudged (S.work self.bank) self.tasks result.verdict result.bounds }
         ensures stays { StaysAccepted (S.work self.bank) self.tasks result.verdict result.bounds }
+        ensures first { FirstBroken (PlanBreaks (S.work self.bank) self.tasks) (fault_told result.verdict) }
         ensures by_judge { ByJudge S.work result }
     {
         let Finding { verdict, bounds } = self.verdict_on();

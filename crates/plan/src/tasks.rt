@@ -2,15 +2,17 @@
 ghost use Rattle.std.specs.Prelude.{◌≡◌, ◌+◌, ◌-◌, ◌^◌, ◌<◌, ◌≤◌, ◌++◌, [], ◌∷◌, length, OnOk, OnErr, nat_le, slice_set};
 ghost use Rattle.std.specs.List.{list_all};
 ghost use Rattle.std.specs.Result.{result_err};
+ghost use Rattle.refusal.specs.Laws.{FirstBroken};
+ghost use Rattle.refusal.specs.Refusals.{refusal_of, fault_in};
 ghost use Rattle.paced.specs.Loads.{row_load};
 ghost use Rattle.paced.specs.Makes.{asked};
-ghost use Rattle.plan.specs.Limits.{bearable, limit_fault, task_fault};
+ghost use Rattle.plan.specs.Limits.{bearable, limit_fault, task_fault, TaskBreaks};
 ghost use Rattle.plan.specs.Needs.{own_need};
 ghost use Rattle.plan.specs.Tasks.{Fitting, limits_of, made, rows_of, side_by_side, task_at, told_of_task};
 
 use paced::row::{Pace, in_range};
 use paced::table::Table;
-use refusal::{Fault, first_fault};
+use refusal::{Fault, Refusal, first_fault};
 use source::{LONGEST, Source};
 use std::marker::Model;
 
@@ -119,18 +121,33 @@ impl Tasks {
         None
     }
 
-    // One task more, below the others, or what is wrong with it: a 17th task or more than 8 costs; a period, deadline or
-    // cost of 0, no cost or a number above 1,000,000; a jitter that is not below the period or a deadline above period
-    // less jitter; a hold above the blocking of an earlier task.
-    pub fn add(&mut self, pace: Pace, limit: Limit) -> Result<(), Fault>
-        ensures answer { result_err result ≡ task_fault self.old (asked pace.entry) limit }
+    // What is wrong with one task more, if anything is.
+    fn fault(&self, pace: Pace, limit: Limit) -> Option<Fault>
+        ensures answer { result ≡ task_fault self.now (asked pace.entry) limit }
+        ensures first { FirstBroken (TaskBreaks self.now (asked pace.entry) limit) result }
+    {
+        first_fault(self.parts().fault(pace), self.limit_fault(pace, limit))
+    }
+
+    // One task more, below the others, or a refusal with the number that it would have had: a 17th task or more than 8 costs; a
+    // period, deadline or cost of 0, no cost or a number above 1,000,000; a jitter that is not below the period or a deadline above
+    // period less jitter; a hold above the blocking of an earlier task.
+    pub fn add(&mut self, pace: Pace, limit: Limit) -> Result<(), Refusal>
+        ensures answer { result_err result ≡ refusal_of (task_fault self.old (asked pace.entry) limit) (length self.old + 1) }
         ensures added { OnOk result (self.new ≡ self.old ++ made (asked pace.entry) limit ∷ []) }
         ensures refused { OnErr result (self.new ≡ self.old) }
+        ensures first { FirstBroken (TaskBreaks self.old (asked pace.entry) limit) (fault_in (result_err result)) }
     {
-        first_fault(self.parts().fault(pace), self.limit_fault(pace, limit)).map_or(Ok(()), Err)?;
-        let place = self.count() as usize;
+        let place = self.count();
+        if let Some(fault) = self.fault(pace, limit) {
+            return Err(Refusal {
+                fault,
+                line: 0,
+                task: place + 1,
+            });
+        }
         self.parts.add(pace)?;
-        self.limits = with_limit(self.limits, place, limit);
+        self.limits = with_limit(self.limits, place as usize, limit);
         Ok(())
     }
 

@@ -1,6 +1,6 @@
 // The judge's verdict on a plan.
 ghost use Rattle.std.specs.Prelude.{◌≡◌, ◌↔◌, ◌+◌, ◌<◌, true};
-ghost use Rattle.plan.specs.Judged.{told, outcome_of, bounds_told};
+ghost use Rattle.plan.specs.Judged.{fault_told, number_told, outcome_of, bounds_told};
 ghost use Rattle.plan.specs.declared.verdict.Verdict.TheVariants.{Late};
 
 use refusal::{Fault, Refusal};
@@ -28,7 +28,7 @@ impl Verdict {
     // The number of the refusal that the verdict stands for, 0 if the plan is accepted: a number, as its definition has it, said case
     // by case, so that it can be held against the pages.
     pub fn number(self) -> u32
-        ensures { result ≡ (told self).number }
+        ensures { result ≡ number_told (fault_told self) }
     {
         match self {
             Verdict::Accepted(_) => 0,

@@ -1,3 +1,4 @@
+use Rattle.plan.proofs.Breaking.{judged_broken}
 use Rattle.plan.proofs.Once.{once, stays_accepted}
 use Rattle.plan.proofs.stages.OpenPlan.verdict_on.Goals as goal
 
@@ -11,5 +12,6 @@ returns g c =
       filled = c.find.ensures.filled;
       only = once bank tasks found.verdict found.bounds c.find.ensures.judged;
       stays = stays_accepted bank tasks found.verdict found.bounds c.find.ensures.judged;
+      first = judged_broken bank tasks found.verdict found.bounds c.find.ensures.judged;
       fitting = c.find.ensures.fitting;
     }

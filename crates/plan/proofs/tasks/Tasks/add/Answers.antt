@@ -1,6 +1,4 @@
 use Rattle.std.proofs.Common.{◌≡◌, ℕ, length, set, Some, None, ap, sym, ◌∙◌, rules, arith}
-use Rattle.std.proofs.lemmas.List.{length-map}
-use Rattle.refusal.specs.Table.{first_of}
 use Rattle.paced.specs.Makes.{asked, adding}
 use Rattle.plan.specs.Limits.{task_fault}
 use Rattle.plan.proofs.Adding.{part_clean, grown, grown_sides}
@@ -9,22 +7,25 @@ use Rattle.plan.proofs.tasks.Tasks.add.Goals as goal
 
 -- where the call goes on, nothing is wrong with the task
 clean : (c : goal.After-self-1) → task_fault c.args.self.now (asked c.args.pace) c.args.limit ≡ None
-clean c =
-    let tasks = c.args.self.now in
-    let long : length c.parts.result.now.list ≡ length tasks = ap length c.parts.ensures ∙ length-map tasks (λ t. t.row) in
-    (λ i. first_of ((sym (c.fault.ensures ∙ ap (λ n. adding 16 n (asked c.args.pace)) long)) i) (sym c.limit_fault.ensures i)) ∙ search rules
+clean c = sym c.fault.ensures.answer ∙ search rules
 
-pub returns-in_err-add-clause-answer : goal.returns-in_err-add-clause-answer
-returns-in_err-add-clause-answer c =
+-- so its paced part can be added
+never : (c : goal.After-from_residual) → ⊥
+never c =
     let s = c.self.inside in
     let tasks = c.args.self.now in
     let a = asked c.args.pace in
-    let long : length c.parts.result.now.list ≡ length tasks = ap length c.parts.ensures ∙ length-map tasks (λ t. t.row) in
-    let fine : task_fault tasks a c.args.limit ≡ None = (λ i. first_of ((sym (c.fault.ensures ∙ ap (λ n. adding 16 n a) long)) i) (sym c.limit_fault.ensures i)) ∙ search rules in
+    let fine : task_fault tasks a c.args.limit ≡ None = sym c.fault.ensures.answer ∙ search rules in
     let count = seen_count s.parts s.limits c.self.invariant tasks c.self.view_is in
     let none : Some c.in_err-add.field-0.0 ≡ None = c.in_err-add.ensures.answer ∙ ap (λ n. adding 16 n a) count ∙ part_clean tasks a c.args.limit fine in
     let z : ◌≡◌ {A = ℕ} 0 1 = cc in
     absurd (omega arith)
+
+pub returns-in_err-add-clause-answer : goal.returns-in_err-add-clause-answer
+returns-in_err-add-clause-answer c = absurd (never c)
+
+pub returns-in_err-add-clause-first : goal.returns-in_err-add-clause-first
+returns-in_err-add-clause-first c = absurd (never c)
 
 limits : (c : goal.After-self-1) → c.with_limit-self-inside.result ≡ set c.self.inside.limits (length c.args.self.now) c.args.limit
 limits c = c.with_limit-self-inside.ensures ∙ ap (λ n. set c.self.inside.limits n c.args.limit) c.count-place.ensures.count
