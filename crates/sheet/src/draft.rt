@@ -72,17 +72,12 @@ impl Draft {
         Ok(())
     }
 
-    // One task more. A table of tasks answers a fault without a number, so each that adds to one names the task.
+    // One task more.
     fn add_task(&mut self, pace: Pace, limit: Limit) -> Result<(), Refusal>
         ensures added { OnOk result (task_line self.old (asked pace.entry) limit ≡ Ok self.new) }
         ensures refused { IfErr result (λ e. task_line self.old (asked pace.entry) limit ≡ Err e) }
     {
-        let task = self.tasks.count() + 1;
-        self.tasks.add(pace, limit).map_err(|fault| Refusal {
-            fault,
-            line: 0,
-            task,
-        })
+        self.tasks.add(pace, limit)
     }
 
     // What a later row makes of the draft: pairs come before interrupts, and these before tasks. A match, and no table of closures:
