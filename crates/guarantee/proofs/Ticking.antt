@@ -10,7 +10,7 @@ use Rattle.source.specs.Facts.{Work}
 use Rattle.calls.specs.declared.Got.{Got}
 use Rattle.calls.specs.declared.Got.TheVariants.{Nobody, Part, Task}
 use Rattle.calls.specs.Steps.{part_unit, task_unit, Due, AgeTold, Idle, Passed}
-use Rattle.run.specs.States.{no_job, backlog_of, left_of, age_of, holder, held, holder_in, held_in, first_backlog, first_pending}
+use Rattle.run.specs.States.{no_job, backlog_of, left_of, age_of, holder, held, holder_in, held_in, first_backlog, first_pending, First}
 use Rattle.run.specs.Steps.{part_served, task_served, served, worked, used, older, aged, goes_on, going_on, settled, passed, due, due_first, due_task, foremost, told_age}
 use Rattle.run.specs.declared.state.Hold.{Hold}
 use Rattle.run.specs.declared.state.Job.{Job}
@@ -18,7 +18,7 @@ use Rattle.run.specs.declared.state.State.{State}
 use Rattle.plan.specs.Plans.{Plan}
 use Rattle.plan.specs.Tasks.{rows_of}
 use Rattle.guarantee.specs.Views.{model_of, view_of}
-use Rattle.run.proofs.Firsts.{First, backlog_found, backlogs_clear, pending_found, jobs_clear}
+use Rattle.run.proofs.Firsts.{backlog_found, backlogs_clear, pending_found, jobs_clear}
 use Rattle.run.proofs.Steady.{after_use, after_tick, left_older}
 use Rattle.run.proofs.Numbered.{numbered_set, numbered_some}
 

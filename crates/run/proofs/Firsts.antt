@@ -6,17 +6,10 @@ use Rattle.std.proofs.lemmas.Bool.{leb-true, leb-false, ltb-false}
 use Rattle.std.proofs.lemmas.List.{get_or-take, length-take-le}
 use Rattle.std.proofs.lemmas.List.Quantifiers.{position-Some}
 use Rattle.std.proofs.lemmas.List.Sums.{fails_before_first}
-use Rattle.run.specs.States.{no_job, backlog_of, left_of, first_at, first_backlog, first_pending}
+use Rattle.run.specs.States.{no_job, backlog_of, left_of, first_at, first_backlog, first_pending, First}
 use Rattle.run.specs.declared.state.Job.{Job}
 use Rattle.run.proofs.Numbered.{numbered, numbered_some}
 use Rattle.run.proofs.Steady.{nothing, same_value}
-
--- r is the first of the numbers 1 to n at which f is not 0
-pub record First (f : ℕ → ℕ) (n r : ℕ) : Type 0 where
-  pub some : 1 ≤ r
-  pub within : r ≤ n
-  pub there : 1 ≤ f r
-  pub before : (j : ℕ) → 1 ≤ j → j < r → f j ≡ 0
 
 module _ {A : Type 0} (d : A) (g : A → ℕ) (xs : List A) (n : ℕ) (short : n ≤ length xs) where
   abbrev pub waits : A → Bool

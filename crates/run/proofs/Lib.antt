@@ -4,6 +4,8 @@ pub mod Faults
 pub mod Firsts
 pub mod Held
 pub mod Numbered
+pub mod Rules
 pub mod Steady
 pub mod Tables
 pub mod Ticks
+pub mod Told

@@ -9,7 +9,7 @@ use Rattle.plan.specs.Tasks.{Task, task_at, rows_of}
 use Rattle.plan.specs.declared.verdict.Verdict.{Verdict}
 use Rattle.plan.specs.declared.verdict.Verdict.TheVariants.{Accepted, NotJudgeable, Late}
 use Rattle.calls.specs.declared.Got.{Got}
-use Rattle.run.specs.States.{at_start, Known, Lasting}
+use Rattle.run.specs.States.{at_start, backlog_of, left_of, First, Known, Lasting}
 use Rattle.run.specs.Steps.{grown, released, granted, let_go, ended, due, passed}
 use Rattle.run.specs.declared.state.State.{State}
 
@@ -48,6 +48,14 @@ tasks_work r = work_in (rows_of r.tasks)
 
 abbrev pub tasks_allowed : {S : Type 0} → Now S → ℕ → ℕ → ℕ
 tasks_allowed r = allowances_in (rows_of r.tasks)
+
+-- part k of the bank is the lowest-numbered with backlog
+abbrev pub LowestWaiting : {S : Type 0} → (S → Work) → Now S → ℕ → Type 0
+LowestWaiting work r k = First (backlog_of r.state.backlogs) (work r.bank).parts k
+
+-- task i is the highest with a pending job: units of its job are left, and no task above it, with a smaller number, has any
+abbrev pub HighestPending : {S : Type 0} → Now S → ℕ → Type 0
+HighestPending r i = First (left_of r.state.jobs) (length r.tasks) i
 
 -- a task to which an offer was made that it took, and a task a tick later
 abbrev pub given_task : Task → Task

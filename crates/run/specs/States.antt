@@ -1,5 +1,5 @@
 -- What waits in a run: backlogs, jobs and the hold, by the numbers of parts and tasks, which count from 1.
-use Rattle.std.specs.Prelude.{ℕ, ◌+◌, ◌-◌, ◌≤◌, Bool, false, cond, List, Some, None, Option, option_map, length, replicate, take, nat_eq, nat_le, slice_index, slice_index_or}
+use Rattle.std.specs.Prelude.{◌≡◌, ℕ, ◌+◌, ◌-◌, ◌<◌, ◌≤◌, Bool, false, cond, List, Some, None, Option, option_map, length, replicate, take, nat_eq, nat_le, slice_index, slice_index_or}
 use Rattle.std.specs.List.{position}
 use Rattle.std.specs.Option.{ForSome}
 use Rattle.plan.specs.Tasks.{Task, task_at}
@@ -77,3 +77,10 @@ first_backlog backlogs n = first_at (λ units. nat_le 1 units) backlogs n
 -- of n tasks, the highest with a pending job
 abbrev pub first_pending : List Job → ℕ → Option ℕ
 first_pending jobs n = first_at (λ job. nat_le 1 job.left) jobs n
+
+-- k is the first of the numbers 1 to n at which f is not 0
+pub record First (f : ℕ → ℕ) (n k : ℕ) : Type 0 where
+  pub some : 1 ≤ k
+  pub within : k ≤ n
+  pub there : 1 ≤ f k
+  pub before : (j : ℕ) → 1 ≤ j → j < k → f j ≡ 0

@@ -1,17 +1,22 @@
 // A run of a judged plan: its calls, what each answers and changes, and when it is refused.
 #![tactic(auto)]
 
-ghost use Rattle.std.specs.Prelude.{◌≡◌, ℕ, ◌<◌, ◌≤◌, length, None, Some, is_some, MatchResult, IfOk, OnOk, OnErr};
+ghost use Rattle.std.specs.Prelude.{◌≡◌, ℕ, ◌<◌, ◌≤◌, length, None, Some, is_some, IfOk, OnOk, OnErr};
 ghost use Rattle.std.specs.List.{All};
 ghost use Rattle.std.specs.Option.{ForSome};
 ghost use Rattle.std.specs.Result.{result_err, result_ok};
 ghost use Rattle.source.specs.Facts.{Taken, Ticked};
+ghost use Rattle.refusal.specs.Laws.{FirstBroken};
+ghost use Rattle.refusal.specs.Refusals.{fault_in};
 ghost use Rattle.paced.specs.Pace.{Fit};
 ghost use Rattle.plan.specs.Plans.{ByJudge};
 ghost use Rattle.plan.specs.Tasks.{rows_of};
+ghost use Rattle.calls.specs.Told.{told};
 ghost use Rattle.run.specs.Faults.{range_fault, tick_fault, named_fault, offer_fault, release_fault, hold_fault, let_go_fault, end_fault, grantable};
 ghost use Rattle.run.specs.Faults.{offer_refusal, release_refusal, hold_refusal, let_go_refusal, end_refusal, tick_refusal};
+ghost use Rattle.run.specs.Rules.{OfferBreaks, ReleaseBreaks, HoldBreaks, LetGoBreaks, EndBreaks, TickBreaks};
 ghost use Rattle.run.specs.States.{hold_of};
+ghost use Rattle.run.specs.Told.{TickTold};
 ghost use Rattle.run.specs.Runs.{Held, Offered, TickPassed, due_in, is_accepted, parts_of, run_ended, run_granted, run_let_go, run_released, started, tasks_allowed, tasks_work};
 
 mod driving;
@@ -121,9 +126,11 @@ impl<G: Gate> Run<G> {
         self.terms.parts.is_some()
     }
 
-    // How many parts the bank has, or that the plan is not accepted.
+    // How many parts the bank has, or that the plan is not accepted. Like the checks below it also tells what the type keeps.
     fn parts(&self) -> Result<u32, Fault>
-        ensures { MatchResult result (λ parts. self.now.parts ≡ Some parts) (λ fault. tick_fault self.now ≡ Some fault) }
+        ensures answer { result_err result ≡ tick_fault self.now }
+        ensures parts { IfOk result (λ parts. self.now.parts ≡ Some parts) }
+        ensures held { Held G.work self.now }
     {
         self.terms.parts.ok_or(Fault::NotAccepted)
     }
@@ -154,7 +161,8 @@ impl<G: Gate> Run<G> {
 
     // Looks for what is wrong with an offer.
     fn check_offer(&self, part: u32, units: u64) -> Result<(), Fault>
-        ensures { result_err result ≡ offer_fault G.allowed self.now part units }
+        ensures answer { result_err result ≡ offer_fault G.allowed self.now part units }
+        ensures held { Held G.work self.now }
     {
         check_range(part.into(), self.parts()?.into(), Fault::NoSuchNumber)?;
         let most = self.bank.allowance(part).unwrap_or(0);
@@ -167,7 +175,8 @@ impl<G: Gate> Run<G> {
 
     // Looks for what is wrong with a task, or with the run.
     fn check_task(&self, task: u32) -> Result<(), Fault>
-        ensures { result_err result ≡ named_fault self.now task }
+        ensures answer { result_err result ≡ named_fault self.now task }
+        ensures held { Held G.work self.now }
     {
         self.parts()?;
         check_range(task.into(), self.task_count().into(), Fault::NoSuchNumber)
@@ -175,7 +184,8 @@ impl<G: Gate> Run<G> {
 
     // Looks for what is wrong with a release. Like the checks below it asks what all ask, and then its own question.
     fn check_release(&self, task: u32, units: u64) -> Result<(), Fault>
-        ensures { result_err result ≡ release_fault self.now task units }
+        ensures answer { result_err result ≡ release_fault self.now task units }
+        ensures held { Held G.work self.now }
     {
         self.check_task(task)?;
         check_range(units, self.most_of(task), Fault::UnitsNotAllowed)?;
@@ -204,7 +214,8 @@ impl<G: Gate> Run<G> {
 
     // Looks for what is wrong with a hold.
     fn check_hold(&self, task: u32, units: u64) -> Result<(), Fault>
-        ensures { result_err result ≡ hold_fault self.now task units }
+        ensures answer { result_err result ≡ hold_fault self.now task units }
+        ensures held { Held G.work self.now }
     {
         self.check_task(task)?;
         if !self.grants(task, units) {
@@ -215,7 +226,8 @@ impl<G: Gate> Run<G> {
 
     // Looks for what is wrong with letting go.
     fn check_let_go(&self, task: u32) -> Result<(), Fault>
-        ensures { result_err result ≡ let_go_fault self.now task }
+        ensures answer { result_err result ≡ let_go_fault self.now task }
+        ensures held { Held G.work self.now }
     {
         self.check_task(task)?;
         if !self.state.is_held_by(task) {
@@ -226,7 +238,8 @@ impl<G: Gate> Run<G> {
 
     // Looks for what is wrong with ending a job.
     fn check_end(&self, task: u32) -> Result<(), Fault>
-        ensures { result_err result ≡ end_fault self.now task }
+        ensures answer { result_err result ≡ end_fault self.now task }
+        ensures held { Held G.work self.now }
     {
         self.check_task(task)?;
         if self.state.left_of(task) < 1 {
@@ -266,9 +279,10 @@ impl<G: Gate> Run<G> {
         ensures got { result ≡ due_in self.old }
         ensures passed { TickPassed G.moves self.old self.new }
         ensures ticked { Ticked (G.allowed self.old.bank) (G.allowed self.new.bank) }
-        ensures kept { G.work self.new.bank ≡ G.work self.old.bank }
         ensures tasks_ticked { Ticked (tasks_allowed self.old) (tasks_allowed self.new) }
+        ensures kept { G.work self.new.bank ≡ G.work self.old.bank }
         ensures tasks_kept { tasks_work self.new ≡ tasks_work self.old }
+        ensures told { TickTold G.work self.old (told result) }
     {
         let got = self.state.due(parts, self.task_count());
         self.state.pass(got);
@@ -285,9 +299,10 @@ impl<G: Gate> Run<G> {
     pub fn offer(&mut self, part: u32, units: u64) -> Result<(), Refusal>
         ensures answer { result_err result ≡ offer_refusal G.allowed self.old part units }
         ensures offered { OnOk result (Offered G.moves part units self.old self.new) }
-        ensures refused { OnErr result (self.new ≡ self.old) }
         ensures taken { OnOk result (Taken (G.allowed self.old.bank) part units (G.allowed self.new.bank)) }
+        ensures refused { OnErr result (self.new ≡ self.old) }
         ensures kept { G.work self.new.bank ≡ G.work self.old.bank }
+        ensures first { FirstBroken (OfferBreaks G.work G.allowed self.old part units) (fault_in (result_err result)) }
     {
         self.check_offer(part, units)?;
         self.take_offer(part, units);
@@ -299,9 +314,10 @@ impl<G: Gate> Run<G> {
     pub fn release(&mut self, task: u32, units: u64) -> Result<(), Refusal>
         ensures answer { result_err result ≡ release_refusal self.old task units }
         ensures released { OnOk result (self.new ≡ run_released self.old task units) }
-        ensures refused { OnErr result (self.new ≡ self.old) }
         ensures taken { OnOk result (Taken (tasks_allowed self.old) task units (tasks_allowed self.new)) }
+        ensures refused { OnErr result (self.new ≡ self.old) }
         ensures kept { tasks_work self.new ≡ tasks_work self.old }
+        ensures first { FirstBroken (ReleaseBreaks self.old task units) (fault_in (result_err result)) }
     {
         // the closure is said in each call, where the task is at hand
         self.check_release(task, units)
@@ -317,6 +333,7 @@ impl<G: Gate> Run<G> {
         ensures answer { result_err result ≡ hold_refusal self.old task units }
         ensures granted { OnOk result (self.new ≡ run_granted self.old task units) }
         ensures refused { OnErr result (self.new ≡ self.old) }
+        ensures first { FirstBroken (HoldBreaks self.old task units) (fault_in (result_err result)) }
     {
         self.check_hold(task, units)
             .map_err(|fault| Refusal::new(fault, 0, task))?;
@@ -330,6 +347,7 @@ impl<G: Gate> Run<G> {
         ensures answer { result_err result ≡ let_go_refusal self.old task }
         ensures let_go { OnOk result (self.new ≡ run_let_go self.old) }
         ensures refused { OnErr result (self.new ≡ self.old) }
+        ensures first { FirstBroken (LetGoBreaks self.old task) (fault_in (result_err result)) }
     {
         self.check_let_go(task)
             .map_err(|fault| Refusal::new(fault, 0, task))?;
@@ -343,6 +361,7 @@ impl<G: Gate> Run<G> {
         ensures answer { result_err result ≡ end_refusal self.old task }
         ensures ended { OnOk result (self.new ≡ run_ended self.old task) }
         ensures refused { OnErr result (self.new ≡ self.old) }
+        ensures first { FirstBroken (EndBreaks self.old task) (fault_in (result_err result)) }
     {
         self.check_end(task)
             .map_err(|fault| Refusal::new(fault, 0, task))?;
@@ -356,11 +375,13 @@ impl<G: Gate> Run<G> {
         ensures answer { result_err result ≡ tick_refusal self.old }
         ensures got { IfOk result (λ got. got ≡ due_in self.old) }
         ensures passed { OnOk result (TickPassed G.moves self.old self.new) }
-        ensures refused { OnErr result (self.new ≡ self.old) }
         ensures ticked { OnOk result (Ticked (G.allowed self.old.bank) (G.allowed self.new.bank)) }
-        ensures kept { G.work self.new.bank ≡ G.work self.old.bank }
         ensures tasks_ticked { OnOk result (Ticked (tasks_allowed self.old) (tasks_allowed self.new)) }
+        ensures refused { OnErr result (self.new ≡ self.old) }
+        ensures kept { G.work self.new.bank ≡ G.work self.old.bank }
         ensures tasks_kept { tasks_work self.new ≡ tasks_work self.old }
+        ensures told { IfOk result (λ got. TickTold G.work self.old (told got)) }
+        ensures first { FirstBroken (TickBreaks self.old) (fault_in (result_err result)) }
     {
         let parts = self.parts()?;
         Ok(self.pass(parts))

@@ -1,6 +1,10 @@
-use Rattle.std.proofs.Common.{ap, length, rules, arith}
+use Rattle.std.proofs.Common.{◌≡◌, sym, subst, ap, length, rules, arith}
+use Rattle.calls.specs.Told.{told}
+use Rattle.run.specs.Runs.{Held, due_in}
 use Rattle.run.specs.Steps.{Placed}
+use Rattle.run.specs.Told.{TickTold}
 use Rattle.run.proofs.Calls.{after_tick, tick_facts, tick_passed}
+use Rattle.run.proofs.Told.{tick_told}
 use Rattle.run.proofs.Run.pass.Goals as goal
 
 pub due-got-requires-clause-hold : goal.due-got-requires-clause-hold
@@ -30,3 +34,9 @@ returns-clause-tasks_kept g c =
     let s = c.self.inside in
     let facts = tick_facts g.G.Source.work s.bank s.table s.terms.limits s.room s.terms.bounds s.terms.parts s.state c.tick_both.new.tasks c.tick_both.ensures.tasks_ticked c.tick_both.ensures.tasks_kept c.args.self.now c.self.view_is in
     facts.1
+
+pub returns-clause-told : goal.returns-clause-told
+returns-clause-told g c =
+    let r = c.args.self.now in
+    let who : c.due-got.result ≡ due_in r = search rules in
+    subst (λ got. TickTold g.G.Source.work r (told got)) (sym who) (tick_told g.G.Source.work r (subst (Held g.G.Source.work) c.self.view_is c.self.invariant) c.args.parts c.requires)
