@@ -1,3 +1,4 @@
+pub mod Breaking
 pub mod Classes
 pub mod Cutting
 pub mod Lines

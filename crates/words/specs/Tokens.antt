@@ -1,12 +1,12 @@
 -- The words of a line: letters, or a number.
-use Rattle.std.specs.Prelude.{◌≡◌, ℕ, ◌-◌, Bool, true, cond, ◌&&◌, List, [], ◌∷◌, length, is_some, Some, None, Option}
-use Rattle.std.specs.List.{list_all}
+use Rattle.std.specs.Prelude.{◌≡◌, ℕ, ◌-◌, ◌≤◌, ◌⊎◌, Bool, true, cond, ◌&&◌, List, [], ◌∷◌, length, is_some, Some, None, All, Option}
+use Rattle.std.specs.List.{Any, list_all}
 use Rattle.refusal.specs.declared.Fault.{Fault}
 use Rattle.refusal.specs.declared.Fault.TheVariants.{ForeignByte, BadWord}
 use Rattle.words.specs.declared.token.Token.{Token}
 use Rattle.words.specs.declared.token.Token.TheVariants.{Keyword, Number}
-use Rattle.words.specs.Bytes.{is_letter, clean}
-use Rattle.words.specs.Numbers.{value_of}
+use Rattle.words.specs.Bytes.{is_letter, clean, IsLetter, Allowed}
+use Rattle.words.specs.Numbers.{value_of, Writes}
 use Rattle.words.specs.Split.{before, onward, pieces}
 
 pub data Word : Type 0 where
@@ -32,6 +32,16 @@ words_good (w ∷ ws) = is_some (word_of w) && words_good ws
 -- what is wrong with a line, of which the line feed is left out
 abbrev pub line_fault : List ℕ → Option Fault
 line_fault line = cond (clean line) (cond (words_good (pieces 32 line)) None (Some BadWord)) (Some ForeignByte)
+
+-- a word: letters, at least one, or what decimal printing writes of a number that is at most 1,000,000
+abbrev pub IsWord : List ℕ → Type 0
+IsWord word = ((1 ≤ length word) × All IsLetter word) ⊎ ((n : ℕ) × Writes word n)
+
+-- which rules the words of a line break, each on its own: a byte that no sheet may have, a piece between spaces that is no word
+unfoldable pub WordsBreak : List ℕ → Fault → Type 0
+WordsBreak line ForeignByte = Any (λ byte. Allowed byte → ⊥) line
+WordsBreak line BadWord = Any (λ word. IsWord word → ⊥) (pieces 32 line)
+WordsBreak line other = ⊥
 
 -- what a token tells: its spelling, the number of its line, the place of its first byte in that line, and what it says
 pub record Told : Type 0 where

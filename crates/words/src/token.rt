@@ -1,9 +1,10 @@
 // The words of a line.
 ghost use Rattle.std.specs.Prelude.{◌≡◌, None, IfOk, IfErr, OnErr};
 ghost use Rattle.std.specs.Result.{result_err};
+ghost use Rattle.refusal.specs.Laws.{FirstBroken};
 ghost use Rattle.refusal.specs.declared.Fault.TheVariants.{BadWord};
 ghost use Rattle.words.specs.Split.{before, OnlyCut};
-ghost use Rattle.words.specs.Tokens.{word_of, line_fault, told, Taken};
+ghost use Rattle.words.specs.Tokens.{word_of, line_fault, told, Taken, WordsBreak};
 
 use crate::bytes::{all_letters, is_clean};
 use crate::number::number_of;
@@ -65,6 +66,7 @@ pub fn next_token<'a>(line: Line<'a>, rest: &'a [u8]) -> Result<(Token<'a>, &'a 
 pub fn check_line(line: Line) -> Result<(), Fault>
     ensures fault { result_err result ≡ line_fault line.entry.bytes.now }
     ensures words { OnlyCut 32 line.entry.bytes.now }
+    ensures first { FirstBroken (WordsBreak line.entry.bytes.now) (result_err result) }
 {
     if !is_clean(line.bytes) {
         return Err(Fault::ForeignByte);
