@@ -1,4 +1,5 @@
 pub mod Begun
+pub mod Breaking
 pub mod Ruling
 pub mod Values
 pub mod Wording

@@ -3,7 +3,7 @@ use Rattle.std.specs.Prelude.{◌≡◌, ℕ, ◌+◌, ◌-◌, min, Bool, true,
 use Rattle.refusal.specs.declared.Fault.{Fault}
 use Rattle.refusal.specs.declared.Fault.TheVariants.{BadLine}
 use Rattle.words.specs.Split.{pieces, joined}
-use Rattle.words.specs.Tokens.{line_fault}
+use Rattle.words.specs.Tokens.{line_fault, WordsBreak}
 use Rattle.lines.specs.Numbers.{numbers_of}
 use Rattle.lines.specs.declared.row.Costs.{Costs}
 use Rattle.lines.specs.declared.row.Kind.{Kind}
@@ -114,6 +114,11 @@ read_line line = told_of (line_fault line) (said_by (pieces 32 line))
 -- a line says s exactly if it is what s writes
 abbrev pub LineRule : List ℕ → Type 0
 LineRule line = ((s : Said) → read_line line ≡ Ok s → (line ≡ written s) × Sayable s) × ((s : Said) → line ≡ written s → Sayable s → read_line line ≡ Ok s)
+
+-- which rules a line breaks, each on its own: those of its words, and that some row writes it
+unfoldable pub LineBreaks : List ℕ → Fault → Type 0
+LineBreaks line BadLine = (s : Said) → line ≡ written s → Sayable s → ⊥
+LineBreaks line other = WordsBreak line other
 
 -- costs in a table of nine, one more than any part may have: what lies beyond is cut off, what is missing is 0
 abbrev pub costs_of : List ℕ → Costs

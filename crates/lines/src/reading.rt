@@ -1,9 +1,11 @@
 // From a line to its row.
 ghost use Rattle.std.specs.Prelude.{◌≡◌, length, if◌then◌else◌, Some, None, IfSome, IfNone, nat_eq};
+ghost use Rattle.std.specs.Result.{result_err};
+ghost use Rattle.refusal.specs.Laws.{FirstBroken};
 ghost use Rattle.lines.specs.declared.row.Kind.TheVariants.{Cycle, At, Irq, Task};
 ghost use Rattle.words.specs.Split.{pieces};
 ghost use Rattle.lines.specs.Numbers.{front, numbers_after, Reads};
-ghost use Rattle.lines.specs.Rows.{kind_of, said, said_by, costs_said, row_said, read_line, LineRule, row_told};
+ghost use Rattle.lines.specs.Rows.{kind_of, said, said_by, costs_said, row_said, read_line, LineRule, LineBreaks, row_told};
 
 use crate::row::{Costs, Kind, Row};
 use refusal::Fault;
@@ -152,6 +154,7 @@ fn row_or_fault(line: Line) -> Result<Row, Fault>
 pub fn row_of(line: Line) -> Result<Row, Fault>
     ensures row { result ≡ row_told (read_line line.entry.bytes.now) }
     ensures rule { LineRule line.entry.bytes.now }
+    ensures first { FirstBroken (LineBreaks line.entry.bytes.now) (result_err result) }
 {
     row_or_fault(line)
 }
