@@ -1,2 +1,3 @@
+pub mod Breaking
 mod Placing
 pub mod Sizes

@@ -1,5 +1,6 @@
 -- The text of each kind of listing, and why one is not written.
-use Rattle.std.specs.Prelude.{ℕ, ◌≤◌, List, ◌++◌, Ok, Err, Result, length}
+use Rattle.std.specs.Prelude.{ℕ, ◌<◌, ◌≤◌, List, ◌++◌, Ok, Err, Result, length}
+use Rattle.refusal.specs.declared.Fault.{Fault}
 use Rattle.refusal.specs.declared.Fault.TheVariants.{BufferTooShort}
 use Rattle.refusal.specs.declared.Refusal.{Refusal}
 use Rattle.listing.specs.declared.marks.TaskMark.{TaskMark}
@@ -26,3 +27,8 @@ listing_text (Err refusal) = refusal_text refusal
 -- the refusal of a buffer that is too short for a listing
 abbrev pub too_short : Refusal
 too_short = record { fault = BufferTooShort; line = 0; task = 0 }
+
+-- which rules a buffer of so many bytes breaks, into which a listing is to be written
+unfoldable pub BufferBreaks : ℕ → Fault → Type 0
+BufferBreaks bytes BufferTooShort = bytes < 2048
+BufferBreaks bytes other = ⊥

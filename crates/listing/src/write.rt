@@ -1,7 +1,10 @@
 // A whole listing.
 ghost use Rattle.std.specs.Prelude.{◌≡◌, ◌<◌, ◌≤◌, length, Ok, Err};
+ghost use Rattle.std.specs.Result.{result_err};
+ghost use Rattle.refusal.specs.Laws.{FirstBroken};
+ghost use Rattle.refusal.specs.Refusals.{fault_in};
 ghost use Rattle.listing.specs.Put.{put, Puts};
-ghost use Rattle.listing.specs.Listings.{marks_text, listing_text, too_short};
+ghost use Rattle.listing.specs.Listings.{marks_text, listing_text, too_short, BufferBreaks};
 
 use crate::marks::{Listing, Marks};
 use crate::pieces::Text;
@@ -47,6 +50,7 @@ pub fn write_listing(buffer: &mut [u8], listing: &Listing) -> Result<usize, Refu
     ensures short { 2048 ≤ length buffer.old → length (listing_text listing.now) ≤ 2048 }
     ensures refused { length buffer.old < 2048 → result ≡ Err too_short }
     ensures kept { length buffer.old < 2048 → buffer.new ≡ buffer.old }
+    ensures first { FirstBroken (BufferBreaks (length buffer.old)) (fault_in (result_err result)) }
 {
     if buffer.len() < ROOM {
         return Err(Refusal::plain(Fault::BufferTooShort));
