@@ -1,8 +1,10 @@
 // The listing of a sheet.
 ghost use Rattle.std.specs.Prelude.{◌≡◌, ◌≤◌, length, take, drop, Some, None, IfOk, OnOk, OnErr, nat_lt, if◌then◌else◌};
 ghost use Rattle.std.specs.Result.{result_err};
+ghost use Rattle.refusal.specs.Laws.{FirstBroken};
+ghost use Rattle.refusal.specs.Refusals.{fault_in};
 ghost use Rattle.words.specs.Split.{OnlyCut};
-ghost use Rattle.listing.specs.Listings.{listing_text, too_short};
+ghost use Rattle.listing.specs.Listings.{listing_text, too_short, BufferBreaks};
 ghost use Rattle.sheet.specs.Marking.{Listed, OnlyListed};
 
 use crate::marking::marked;
@@ -24,6 +26,7 @@ fn listing_of(sheet: &[u8]) -> Listing
 pub fn list(sheet: &[u8], buffer: &mut [u8]) -> Result<usize, Refusal>
     ensures answer { result_err result ≡ (if nat_lt (length buffer.old) 2048 then Some too_short else None) }
     ensures listed { IfOk result (λ n. Listed sheet.now (take n buffer.new)) }
+    ensures first { FirstBroken (BufferBreaks (length buffer.old)) (fault_in (result_err result)) }
     ensures room { IfOk result (λ n. n ≤ length buffer.new) }
     ensures rest { IfOk result (λ n. drop n buffer.new ≡ drop n buffer.old) }
     ensures refused { OnErr result (buffer.new ≡ buffer.old) }
