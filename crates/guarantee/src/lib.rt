@@ -72,13 +72,13 @@ pub fn is_promised<G: Gate>(judged: &JudgedPlan<G>) -> bool
 // Judges a plan, starts a run of it and makes the calls in order, as many as there is room for answers. Answers beyond the
 // calls are unchanged.
 pub fn rehearse<G: Gate>(plan: OpenPlan<G>, calls: &[Call], answers: &mut [Answer]) -> Run<G>
+    ensures tasks { map rested result.tasks ≡ plan.tasks }
+    ensures rest { drop (length calls.now) answers.new ≡ drop (length calls.now) answers.old }
+    ensures parts { Acceptable G.work plan → result.parts ≡ Some (G.work plan.bank).parts }
     ensures judged { (v : Verdict) × Judged (G.work plan.bank) plan.tasks v result.bounds × (result.parts ≡ parts_of (G.work plan.bank) v) }
     ensures played { Played G.allowed G.moves calls.now answers.new (begun plan result) result }
-    ensures parts { Acceptable G.work plan → result.parts ≡ Some (G.work plan.bank).parts }
-    ensures tasks { map rested result.tasks ≡ plan.tasks }
     ensures guaranteed { Acceptable G.work plan → Keeps G.work plan result.bounds (log_of calls.now answers.new) }
     ensures stepped { Acceptable G.work plan → Modelled G.work G.allowed plan result (log_of calls.now answers.new) }
-    ensures rest { drop (length calls.now) answers.new ≡ drop (length calls.now) answers.old }
 {
     run_of(plan.judge(), calls, answers)
 }

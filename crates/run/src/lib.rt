@@ -298,10 +298,10 @@ impl<G: Gate> Run<G> {
     // all.
     pub fn offer(&mut self, part: u32, units: u64) -> Result<(), Refusal>
         ensures answer { result_err result ≡ offer_refusal G.allowed self.old part units }
-        ensures offered { OnOk result (Offered G.moves part units self.old self.new) }
-        ensures taken { OnOk result (Taken (G.allowed self.old.bank) part units (G.allowed self.new.bank)) }
         ensures refused { OnErr result (self.new ≡ self.old) }
         ensures kept { G.work self.new.bank ≡ G.work self.old.bank }
+        ensures offered { OnOk result (Offered G.moves part units self.old self.new) }
+        ensures taken { OnOk result (Taken (G.allowed self.old.bank) part units (G.allowed self.new.bank)) }
         ensures first { FirstBroken (OfferBreaks G.work G.allowed self.old part units) (fault_in (result_err result)) }
     {
         self.check_offer(part, units)?;
@@ -314,9 +314,9 @@ impl<G: Gate> Run<G> {
     pub fn release(&mut self, task: u32, units: u64) -> Result<(), Refusal>
         ensures answer { result_err result ≡ release_refusal self.old task units }
         ensures released { OnOk result (self.new ≡ run_released self.old task units) }
-        ensures taken { OnOk result (Taken (tasks_allowed self.old) task units (tasks_allowed self.new)) }
         ensures refused { OnErr result (self.new ≡ self.old) }
         ensures kept { tasks_work self.new ≡ tasks_work self.old }
+        ensures taken { OnOk result (Taken (tasks_allowed self.old) task units (tasks_allowed self.new)) }
         ensures first { FirstBroken (ReleaseBreaks self.old task units) (fault_in (result_err result)) }
     {
         // the closure is said in each call, where the task is at hand
@@ -374,13 +374,13 @@ impl<G: Gate> Run<G> {
     pub fn tick(&mut self) -> Result<Got, Refusal>
         ensures answer { result_err result ≡ tick_refusal self.old }
         ensures got { IfOk result (λ got. got ≡ due_in self.old) }
-        ensures passed { OnOk result (TickPassed G.moves self.old self.new) }
-        ensures ticked { OnOk result (Ticked (G.allowed self.old.bank) (G.allowed self.new.bank)) }
-        ensures tasks_ticked { OnOk result (Ticked (tasks_allowed self.old) (tasks_allowed self.new)) }
         ensures refused { OnErr result (self.new ≡ self.old) }
         ensures kept { G.work self.new.bank ≡ G.work self.old.bank }
         ensures tasks_kept { tasks_work self.new ≡ tasks_work self.old }
+        ensures passed { OnOk result (TickPassed G.moves self.old self.new) }
         ensures told { IfOk result (λ got. TickTold G.work self.old (told got)) }
+        ensures ticked { OnOk result (Ticked (G.allowed self.old.bank) (G.allowed self.new.bank)) }
+        ensures tasks_ticked { OnOk result (Ticked (tasks_allowed self.old) (tasks_allowed self.new)) }
         ensures first { FirstBroken (TickBreaks self.old) (fault_in (result_err result)) }
     {
         let parts = self.parts()?;

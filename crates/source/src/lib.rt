@@ -51,15 +51,15 @@ pub trait Gate: Source {
     fn offer(&mut self, part: u32, units: u64) -> bool
         ensures answer { result ≡ offerable (Self.Source.work self.old).parts (Self.Source.allowed self.old) part units }
         ensures refused { result ≡ false → self.new ≡ self.old }
+        ensures kept { Self.Source.work self.new ≡ Self.Source.work self.old }
         ensures takes { result ≡ true → moves.takes self.old part units self.new }
-        ensures taken { result ≡ true → Taken (Self.Source.allowed self.old) part units (Self.Source.allowed self.new) }
-        ensures kept { Self.Source.work self.new ≡ Self.Source.work self.old };
+        ensures taken { result ≡ true → Taken (Self.Source.allowed self.old) part units (Self.Source.allowed self.new) };
 
     // One tick passes. It is never refused.
     fn tick(&mut self)
+        ensures kept { Self.Source.work self.new ≡ Self.Source.work self.old }
         ensures ticks { moves.ticks self.old self.new }
-        ensures ticked { Ticked (Self.Source.allowed self.old) (Self.Source.allowed self.new) }
-        ensures kept { Self.Source.work self.new ≡ Self.Source.work self.old };
+        ensures ticked { Ticked (Self.Source.allowed self.old) (Self.Source.allowed self.new) };
 
     ghost driven: { Driven Self.Source.work Self.Source.allowed moves };
 }
@@ -69,10 +69,10 @@ pub trait Gate: Source {
 #[tactic(auto, using(crate::proofs::Offering::nothing_offered))]
 pub fn offer_all<G: Gate>(bank: &mut G, part: u32) -> u64
     ensures units { result ≡ G.allowed bank.old part 1 }
-    ensures refused { result ≡ 0 → bank.new ≡ bank.old }
-    ensures takes { 1 ≤ result → G.moves.takes bank.old part result bank.new }
-    ensures empty { G.allowed bank.new part 1 ≡ 0 }
     ensures kept { G.work bank.new ≡ G.work bank.old }
+    ensures refused { result ≡ 0 → bank.new ≡ bank.old }
+    ensures empty { G.allowed bank.new part 1 ≡ 0 }
+    ensures takes { 1 ≤ result → G.moves.takes bank.old part result bank.new }
 {
     let units = bank.allowance(part).unwrap_or(0);
     if bank.offer(part, units) { units } else { 0 }
