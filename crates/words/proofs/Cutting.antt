@@ -1,6 +1,6 @@
 -- How the pieces of a text come from its first piece and the rest, and why no other cut is there.
-use Rattle.std.proofs.Common.{◌≡◌, ℕ, suc, ◌+◌, ◌<◌, ◌≤◌, Bool, true, false, cond, not, ◌&&◌, eqb, ltb, List, [], ◌∷◌, ◌++◌, length, get_or, take, drop, Some, None, Option, MatchOption, unwrap_or, sym, refl, subst, ap, ◌∙◌, arith}
-use Rattle.std.proofs.lemmas.List.{drop_more, drop_all, take_all}
+use Rattle.std.proofs.Common.{◌≡◌, ℕ, suc, ◌+◌, ◌-◌, ◌<◌, ◌≤◌, Bool, true, false, cond, not, ◌&&◌, eqb, ltb, List, [], ◌∷◌, ◌++◌, length, get_or, take, drop, Some, None, Option, MatchOption, unwrap_or, sym, refl, subst, ap, ◌∙◌, arith}
+use Rattle.std.proofs.lemmas.List.{drop_more, drop_all, take_all, take_rest}
 use Rattle.std.proofs.lemmas.Bool.{ltb-true, ltb-false, eq-eqb, eqb-true, and_parts, not-true, cond-true, cond-false}
 use Rattle.std.specs.List.{position_or_len, position}
 use Rattle.words.specs.Split.{before, onward, onto, pieces, following, joined, lacks, all_lack, OnlyCut}
@@ -72,8 +72,8 @@ module _ (s : ℕ) where
   pub front_cut : (xs : List ℕ) (o : Option ℕ) (end : ℕ) (front : List ℕ) → o ≡ position (λ x. eqb x s) xs → end ≡ unwrap_or o (length xs) → front ≡ take end xs → front ≡ before s xs
   front_cut xs o end front e f g = g ∙ ap (λ k. take k xs) f ∙ (cut_at xs o e).0
 
-  pub rest_cut : (xs : List ℕ) (o : Option ℕ) (end : ℕ) (rest : List ℕ) → o ≡ position (λ x. eqb x s) xs → end ≡ unwrap_or o (length xs) → rest ≡ drop end xs → rest ≡ onward s xs
-  rest_cut xs o end rest e f g = g ∙ ap (λ k. drop k xs) f ∙ (cut_at xs o e).1
+  pub rest_cut : (xs : List ℕ) (o : Option ℕ) (end : ℕ) → o ≡ position (λ x. eqb x s) xs → end ≡ unwrap_or o (length xs) → take (length xs - end) (drop end xs) ≡ onward s xs
+  rest_cut xs o end e f = take_rest xs end ∙ ap (λ k. drop k xs) f ∙ (cut_at xs o e).1
 
 pub pieces_first : (s : ℕ) (xs : List ℕ) → pieces s xs ≡ before s xs ∷ following s (onward s xs)
 pieces_first s [] = refl

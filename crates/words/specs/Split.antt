@@ -1,5 +1,5 @@
 -- How a text is cut at a byte s: into the parts between, which lack it.
-use Rattle.std.specs.Prelude.{◌≡◌, ℕ, ◌≤◌, Bool, true, cond, not, ◌&&◌, List, [], ◌∷◌, ◌++◌, length, ◌==◌}
+use Rattle.std.specs.Prelude.{◌≡◌, ℕ, ◌+◌, ◌≤◌, Bool, true, cond, not, ◌&&◌, List, [], ◌∷◌, ◌++◌, length, ◌==◌}
 
 -- what stands before the first s, or all
 abbrev pub before : ℕ → List ℕ → List ℕ
@@ -48,3 +48,7 @@ pub record Cut (s : ℕ) (text : List ℕ) (ws : List (List ℕ)) : Type 0 where
 -- the pieces are such a cut of the text, and there is no other
 abbrev pub OnlyCut : ℕ → List ℕ → Type 0
 OnlyCut s text = Cut s text (pieces s text) × ((ws : List (List ℕ)) → Cut s text ws → ws ≡ pieces s text)
+
+-- the place in memory that lies so many bytes behind another
+abbrev pub behind : ℕ × ℕ → ℕ → ℕ × ℕ
+behind place n = (place.0, place.1 + n)

@@ -54,6 +54,11 @@ abbrev pub told : Token → Told
 told (Keyword spelling line place) = record { spelling = spelling.now; line = line; place = place; word = letters spelling.now }
 told (Number spelling line place value) = record { spelling = spelling.now; line = line; place = place; word = number value }
 
+-- where in memory the spelling of a token begins
+abbrev pub begins_at : Token → ℕ × ℕ
+begins_at (Keyword spelling line place) = spelling.ref_ptr
+begins_at (Number spelling line place value) = spelling.ref_ptr
+
 -- the first word of the rest of a line: a token that tells its spelling, its line and its place, and what is left after it
 pub record Taken (number : ℕ) (bytes rest : List ℕ) (token : Told) (left : List ℕ) : Type 0 where
   pub word : word_of (before 32 rest) ≡ Some token.word

@@ -1,10 +1,10 @@
 // The words of a line.
-ghost use Rattle.std.specs.Prelude.{◌≡◌, None, IfOk, IfErr, OnErr};
+ghost use Rattle.std.specs.Prelude.{◌≡◌, length, None, IfOk, IfErr, OnErr};
 ghost use Rattle.std.specs.Result.{result_err};
 ghost use Rattle.refusal.specs.Laws.{FirstBroken};
 ghost use Rattle.refusal.specs.declared.Fault.TheVariants.{BadWord};
-ghost use Rattle.words.specs.Split.{before, OnlyCut};
-ghost use Rattle.words.specs.Tokens.{word_of, line_fault, told, Taken, WordsBreak};
+ghost use Rattle.words.specs.Split.{before, behind, OnlyCut};
+ghost use Rattle.words.specs.Tokens.{begins_at, word_of, line_fault, told, Taken, WordsBreak};
 
 use crate::bytes::{all_letters, is_clean};
 use crate::number::number_of;
@@ -35,9 +35,12 @@ pub enum Token<'a> {
     },
 }
 
-// The first word of the rest of a line, which begins with a word, and what follows it: from a space on, or nothing.
+// The first word of the rest of a line, which begins with a word, and what follows it: from a space on, or nothing. Both are parts of
+// that very text: the spelling begins where it begins, and what follows just behind the spelling.
 pub fn next_token<'a>(line: Line<'a>, rest: &'a [u8]) -> Result<(Token<'a>, &'a [u8]), Fault>
     ensures token { IfOk result (λ p. Taken line.entry.number line.entry.bytes.now rest.now (told p.0) p.1.now) }
+    ensures at { IfOk result (λ p. begins_at p.0 ≡ rest.entry.ref_ptr) }
+    ensures left_at { IfOk result (λ p. p.1.ref_ptr ≡ behind rest.entry.ref_ptr (length (before 32 rest.now))) }
     ensures no_word { OnErr result (word_of (before 32 rest.now) ≡ None) }
     ensures fault { IfErr result (λ f. f ≡ BadWord) }
 {

@@ -1,12 +1,12 @@
-use Rattle.std.proofs.Common.{◌+◌, ◌∷◌, length, Some, None, sym, ap, ◌∙◌, arith}
-use Rattle.std.proofs.lemmas.List.{take_rest, length-drop}
+use Rattle.std.proofs.Common.{◌+◌, ◌∷◌, length, Some, None, refl, sym, ap, ◌∙◌, arith}
+use Rattle.std.proofs.lemmas.List.{take_rest, length-drop, length-take-le}
 use Rattle.words.proofs.Cutting.{IsNowhere, IsFirstAt, found}
 use Rattle.words.proofs.split.first_line.Goals as goal
 
 pub returns-in_err-end : goal.returns-in_err-end
 returns-in_err-end c =
     let none : IsNowhere 10 c.args.sheet.now = found 10 c.args.sheet.now None c.in_err-end.ensures in
-    rw c.from_residual.ensures (record { line = tt; after = tt; shorter = tt; unended = none.back })
+    rw c.from_residual.ensures (record { line = tt; after = tt; line_at = tt; after_at = tt; shorter = tt; unended = none.back })
 
 pub returns : goal.returns
 returns c =
@@ -17,6 +17,8 @@ returns c =
     record {
       line = sym first.front;
       after = ap (λ ys. 10 ∷ ys) rest ∙ sym first.behind;
+      line_at = refl;
+      after_at = ap (λ n. (c.args.sheet.ref_ptr.0, n)) (omega (arith, length-take-le end sheet (omega (arith, first.within))));
       shorter = omega (arith, first.within, ap length rest, length-drop (end + 1) sheet);
       unended = tt;
     }
