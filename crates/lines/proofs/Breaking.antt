@@ -1,5 +1,5 @@
 -- What is wrong with a line keeps to the law of refusals.
-use Rattle.std.proofs.Common.{◌≡◌, ℕ, ◌≤◌, List, Some, None, Ok, Err, Option, Result, refl, sym, ap, ◌∙◌, subst, arith}
+use Rattle.std.proofs.Common.{◌≡◌, ℕ, ◌≤◌, true, List, Some, None, Ok, Err, Option, Result, refl, sym, ap, ◌∙◌, subst, arith}
 use Rattle.std.specs.Result.{result_err}
 use Rattle.refusal.specs.Laws.{FirstBroken}
 use Rattle.refusal.specs.Table.{row}
@@ -49,8 +49,17 @@ module _ (line : List ℕ) where
   broken_by None None e is = some_broken (LineBreaks line) BadLine (no_row (λ i. told_of (e i) (is i))) (λ g b. line_alone g (words_broken line None e) b)
   broken_by None (Some s) e is = none_broken (LineBreaks line) (one_row s (λ i. told_of (e i) (is i)) (words_broken line None e))
 
-  line_broken : FirstBroken (LineBreaks line) (result_err (read_line line))
+  -- what is given for a line in place of what it says
+  pub line_broken : FirstBroken (LineBreaks line) (result_err (read_line line))
   line_broken = broken_by (line_fault line) (said_by (pieces 32 line)) refl refl
+
+  -- and that is about a line
+  pub line_lined : (f : Fault) → LineBreaks line f → (row f).lined ≡ true
+  unfolding WordsBreak LineBreaks
+  line_lined ForeignByte b = refl
+  line_lined BadWord b = refl
+  line_lined BadLine b = refl
+  line_lined other b = absurd b
 
 same_fault : (r : Result Said Fault) → result_err (row_told r) ≡ result_err r
 same_fault (Ok s) = refl

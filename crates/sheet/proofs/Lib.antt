@@ -1,3 +1,4 @@
+pub mod Breaking
 pub mod Keeping
 pub mod Lining
 pub mod Telling

@@ -1,4 +1,5 @@
 pub mod Drafts
+pub mod Faulty
 pub mod Marking
 pub mod Reading
 pub mod Rowing
