@@ -1,5 +1,5 @@
 -- The text of each kind of listing, and why one is not written.
-use Rattle.std.specs.Prelude.{ℕ, ◌<◌, ◌≤◌, List, ◌++◌, Ok, Err, Result, length}
+use Rattle.std.specs.Prelude.{ℕ, ◌<◌, ◌≤◌, List, ◌++◌, if◌then◌else◌, nat_lt, Some, None, Option, Ok, Err, Result, length}
 use Rattle.refusal.specs.declared.Fault.{Fault}
 use Rattle.refusal.specs.declared.Fault.TheVariants.{BufferTooShort}
 use Rattle.refusal.specs.declared.Refusal.{Refusal}
@@ -27,6 +27,10 @@ listing_text (Err refusal) = refusal_text refusal
 -- the refusal of a buffer that is too short for a listing
 abbrev pub too_short : Refusal
 too_short = record { fault = BufferTooShort; line = 0; task = 0 }
+
+-- why a buffer of so many bytes is refused, if it is
+abbrev pub room_refusal : ℕ → Option Refusal
+room_refusal bytes = if nat_lt bytes 2048 then Some too_short else None
 
 -- which rules a buffer of so many bytes breaks, into which a listing is to be written
 unfoldable pub BufferBreaks : ℕ → Fault → Type 0

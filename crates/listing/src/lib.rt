@@ -8,4 +8,4 @@ mod write;
 
 pub use lines::layer_name;
 pub use marks::{Listing, Marks, TaskMark};
-pub use write::{ROOM, write_listing};
+pub use write::{ROOM, check_room, write_listing};

@@ -4,7 +4,7 @@ ghost use Rattle.std.specs.Result.{result_err};
 ghost use Rattle.refusal.specs.Laws.{FirstBroken};
 ghost use Rattle.refusal.specs.Refusals.{fault_in};
 ghost use Rattle.listing.specs.Put.{put, Puts};
-ghost use Rattle.listing.specs.Listings.{marks_text, listing_text, too_short, BufferBreaks};
+ghost use Rattle.listing.specs.Listings.{marks_text, listing_text, room_refusal, too_short, BufferBreaks};
 
 use crate::marks::{Listing, Marks};
 use crate::pieces::Text;
@@ -42,6 +42,16 @@ impl<'a> Text<'a> {
     }
 }
 
+// Whether a buffer is long enough for every listing, or the refusal of one that is not.
+pub fn check_room(buffer: &[u8]) -> Result<(), Refusal>
+    ensures { result_err result ≡ room_refusal (length buffer.now) }
+{
+    if buffer.len() < ROOM {
+        return Err(Refusal::plain(Fault::BufferTooShort));
+    }
+    Ok(())
+}
+
 // Writes a listing at the start of a buffer, and says how many bytes it has; the rest of the buffer stays as it was. A
 // buffer of less than 2,048 bytes is refused and stays as it was.
 pub fn write_listing(buffer: &mut [u8], listing: &Listing) -> Result<usize, Refusal>
@@ -52,9 +62,7 @@ pub fn write_listing(buffer: &mut [u8], listing: &Listing) -> Result<usize, Refu
     ensures kept { length buffer.old < 2048 → buffer.new ≡ buffer.old }
     ensures first { FirstBroken (BufferBreaks (length buffer.old)) (fault_in (result_err result)) }
 {
-    if buffer.len() < ROOM {
-        return Err(Refusal::plain(Fault::BufferTooShort));
-    }
+    check_room(buffer)?;
     let mut text = Text::new(buffer);
     text.put_listing(listing);
     Ok(text.end)
