@@ -329,26 +329,14 @@ fn paced_makers(rt: HostRuntime) {
     for (period, jitter, costs, fault) in cases {
         assert_eq!(rt; number(Paced::new(pace(period, jitter, costs))), fault);
         let mut rack = Rack::new();
-        assert_eq!(rt;
-            number(rack.add(pace(period, jitter, costs)).map_err(Refusal::from)),
-            fault
-        );
+        assert_eq!(rt; number(rack.add(pace(period, jitter, costs))), fault);
     }
     let mut rack = Rack::new();
     for _ in 0..8 {
-        assert_eq!(rt;
-            number(rack.add(pace(10, 2, one)).map_err(Refusal::from)),
-            0
-        );
+        assert_eq!(rt; number(rack.add(pace(10, 2, one))), 0);
     }
-    assert_eq!(rt;
-        number(rack.add(pace(10, 2, one)).map_err(Refusal::from)),
-        5
-    );
-    assert_eq!(rt;
-        number(rack.add(pace(0, 0, none)).map_err(Refusal::from)),
-        5
-    );
+    assert_eq!(rt; number(rack.add(pace(10, 2, one))), 5);
+    assert_eq!(rt; number(rack.add(pace(0, 0, none))), 5);
     assert_eq!(rt; rack.count(), 8);
 }
 

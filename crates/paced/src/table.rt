@@ -3,6 +3,7 @@ ghost use Rattle.std.specs.Prelude.{◌≡◌, ℕ, ◌-◌, ◌<◌, ◌≤◌,
 ghost use Rattle.std.specs.Result.{result_err};
 ghost use Rattle.std.proofs.Common.{arith};
 ghost use Rattle.refusal.specs.Laws.{FirstBroken};
+ghost use Rattle.refusal.specs.Refusals.{refusal_of, fault_in};
 ghost use Rattle.source.proofs.Gates.{list_sound, list_taken, list_ticked};
 ghost use Rattle.source.specs.Rows.{Gives, Passes};
 ghost use Rattle.paced.specs.Loads.{row_load};
@@ -12,7 +13,7 @@ ghost use Rattle.paced.specs.Rows.{paced_owes};
 ghost use Rattle.paced.specs.Tables.{part_at, told_of, work_in, allowances_in};
 
 use crate::row::{Pace, Row};
-use refusal::Fault;
+use refusal::{Fault, Refusal};
 use source::{Gate, LONGEST, MOST_PARTS, Source};
 use std::marker::Model;
 
@@ -117,13 +118,13 @@ impl<const ROOM: usize> Table<ROOM> {
         self.rows = moved;
     }
 
-    // One part more behind the others, with level and place 0, or what is wrong: no room or more than 8 costs; a period
-    // or cost of 0, no cost or a number above 1,000,000; a jitter that is not below the period.
-    pub fn add(&mut self, pace: Pace) -> Result<(), Fault>
-        ensures answer { result_err result ≡ adding (min ROOM 1000) (length self.old.list) (asked pace.entry) }
+    // One part more behind the others, with level and place 0, or a refusal with line 0 and task 0: no room or more than 8 costs; a
+    // period or cost of 0, no cost or a number above 1,000,000; a jitter that is not below the period.
+    pub fn add(&mut self, pace: Pace) -> Result<(), Refusal>
+        ensures answer { result_err result ≡ refusal_of (adding (min ROOM 1000) (length self.old.list) (asked pace.entry)) 0 }
         ensures added { OnOk result (self.new.list ≡ self.old.list ++ fresh (asked pace.entry) ∷ []) }
         ensures refused { OnErr result (self.new ≡ self.old) }
-        ensures first { FirstBroken (PartBreaks (min ROOM 1000) (length self.old.list) (asked pace.entry)) (result_err result) }
+        ensures first { FirstBroken (PartBreaks (min ROOM 1000) (length self.old.list) (asked pace.entry)) (fault_in (result_err result)) }
     {
         self.fault(pace).map_or(Ok(()), Err)?;
         let row = pace.fresh_row();

@@ -68,8 +68,7 @@ impl Draft {
         if self.tasks.count() > 0 {
             return Err(Refusal::plain(Fault::BadLine));
         }
-        self.rack.add(pace)?;
-        Ok(())
+        self.rack.add(pace)
     }
 
     // One task more.

@@ -1,4 +1,5 @@
 use Rattle.std.proofs.Common.{◌≡◌, ℕ, length, set, Some, None, ap, sym, ◌∙◌, rules, arith}
+use Rattle.refusal.specs.Refusals.{refusal_of}
 use Rattle.paced.specs.Makes.{asked, adding}
 use Rattle.plan.specs.Limits.{task_fault}
 use Rattle.plan.proofs.Adding.{part_clean, grown, grown_sides}
@@ -17,7 +18,7 @@ never c =
     let a = asked c.args.pace in
     let fine : task_fault tasks a c.args.limit ≡ None = sym c.fault.ensures.answer ∙ search rules in
     let count = seen_count s.parts s.limits c.self.invariant tasks c.self.view_is in
-    let none : Some c.in_err-add.field-0.0 ≡ None = c.in_err-add.ensures.answer ∙ ap (λ n. adding 16 n a) count ∙ part_clean tasks a c.args.limit fine in
+    let none : Some c.in_err-add.field-0.0 ≡ None = c.in_err-add.ensures.answer ∙ ap (λ n. refusal_of (adding 16 n a) 0) count ∙ ap (λ f. refusal_of f 0) (part_clean tasks a c.args.limit fine) in
     let z : ◌≡◌ {A = ℕ} 0 1 = cc in
     absurd (omega arith)
 
