@@ -1,7 +1,7 @@
 -- One task more: what the tasks of a plan keep to.
-use Rattle.std.proofs.Common.{◌≡◌, ℕ, ◌+◌, ◌<◌, ◌≤◌, Bool, true, false, cond, ◌&&◌, ltb, leb, List, [], ◌∷◌, ◌++◌, length, get_or, Some, None, Option, set, sym, subst, ◌∙◌, refl, ap, inl, inr, arith, length-append, length-set}
+use Rattle.std.proofs.Common.{◌≡◌, ℕ, ◌+◌, ◌-◌, ◌<◌, ◌≤◌, Bool, true, false, cond, ◌&&◌, ltb, leb, List, [], ◌∷◌, ◌++◌, length, drop, replicate, get_or, Some, None, Option, set, sym, subst, ◌∙◌, refl, ap, inl, inr, arith, length-append, length-set}
 use Rattle.std.proofs.lemmas.Bool.{cases_lt, leb-true, ltb-true, and_parts}
-use Rattle.std.proofs.lemmas.List.{get_or_append_left, get_or_push, get_or-map, length-map}
+use Rattle.std.proofs.lemmas.List.{drop-drop, drop-replicate, drop-set-lt, get_or_append_left, get_or_push, get_or-map, length-map}
 use Rattle.std.proofs.lemmas.List.Elements.{All-push}
 use Rattle.std.proofs.lemmas.List.Sums.{AllPass-from_list_all}
 use Rattle.refusal.specs.Table.{row, first_of}
@@ -13,8 +13,8 @@ use Rattle.paced.specs.Tables.{FitRows}
 use Rattle.paced.specs.declared.row.Row.{Row}
 use Rattle.paced.proofs.Makings.{passed, fresh_fit}
 use Rattle.plan.specs.Limits.{bearable, limit_fault, task_fault}
-use Rattle.plan.specs.Tasks.{Task, made, task_at, limits_of, unlimited, side_by_side, AtRest, Fitting, Sides}
-use Rattle.plan.proofs.Sides.{seen_count, seen_fitting, sides_more}
+use Rattle.plan.specs.Tasks.{Task, made, task_at, limits_of, unlimited, side_by_side, AtRest, Fitting, Sides, Unused}
+use Rattle.plan.proofs.Sides.{seen_count, seen_fitting, seen_rest, sides_more}
 use Rattle.plan.specs.declared.tasks.Limit.{Limit}
 
 -- where no fault is found in either of two, none is found in both
@@ -111,4 +111,23 @@ module _ (parts : FitRows 16) (limits : List Limit) (sides : Sides parts.list li
       record {
         room = ap length limits_more ∙ length-set limits (length tasks) l ∙ sides.room;
         fitting = subst Fitting (sym grown) (add_fitting tasks a l clean (seen_fitting parts limits sides tasks seen));
+        rest = unused;
       }
+    where
+      n : ℕ
+      n = length tasks
+
+      long : length rows' ≡ n + 1
+      long = omega (arith, ap length rows_more, length-append parts.list (fresh a ∷ []), seen_count parts limits sides tasks seen)
+
+      less : 16 - n - 1 ≡ 16 - (n + 1)
+      less = omega arith
+
+      unused : Unused (length rows') limits'
+      unused =
+          (λ i. drop (long i) (limits_more i))
+          ∙ drop-set-lt (n + 1) limits n l (omega arith)
+          ∙ sym (drop-drop 1 n limits)
+          ∙ ap (drop 1) (seen_rest parts limits sides tasks seen)
+          ∙ drop-replicate 1 (16 - n) unlimited
+          ∙ ap (λ k. replicate k unlimited) (less ∙ ap (λ k. 16 - k) (sym long))

@@ -10,7 +10,7 @@ use Rattle.paced.specs.Pace.{blank, largest_cost, Fit, paced}
 use Rattle.paced.specs.Rows.{paced_owes}
 use Rattle.paced.specs.Tables.{FitRows, row_at, told_of, work_in, allowances_in}
 use Rattle.paced.specs.declared.row.Row.{Row}
-use Rattle.plan.specs.Tasks.{Task, unlimited, task_at, rows_of, limits_of, side_by_side, Fitting, Sides}
+use Rattle.plan.specs.Tasks.{Task, unlimited, task_at, rows_of, limits_of, side_by_side, Fitting, Sides, Unused}
 use Rattle.plan.specs.declared.tasks.Limit.{Limit}
 
 pub rows_sides : (rows : List Row) (limits : List Limit) → length rows ≤ length limits → rows_of (side_by_side rows limits) ≡ rows
@@ -80,6 +80,9 @@ module _ (parts : FitRows 16) (limits : List Limit) (sides : Sides parts.list li
 
   pub seen_fitting : Fitting tasks
   seen_fitting = subst Fitting seen sides.fitting
+
+  pub seen_rest : Unused (length tasks) limits
+  seen_rest = subst (λ n. Unused n limits) seen_count sides.rest
 
   pub seen_deadline : (i : ℕ) → i < length tasks → (get_or limits i unlimited).deadline ≤ 1000000
   seen_deadline i h =

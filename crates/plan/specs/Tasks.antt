@@ -1,5 +1,5 @@
 -- The tasks of a plan: a list, the highest first. Places in it count from 0, and the number of a task is its place and one.
-use Rattle.std.specs.Prelude.{◌≡◌, ℕ, ◌+◌, ◌-◌, ◌<◌, ◌≤◌, cond, List, [], ◌∷◌, All, Option, Some, None, length, map, slice_index_or}
+use Rattle.std.specs.Prelude.{◌≡◌, ℕ, ◌+◌, ◌-◌, ◌<◌, ◌≤◌, cond, List, [], ◌∷◌, All, Option, Some, None, length, map, drop, replicate, slice_index_or}
 use Rattle.source.specs.Facts.{is_part}
 use Rattle.paced.specs.Makes.{Asked, fresh}
 use Rattle.paced.specs.Pace.{blank, Fit}
@@ -54,7 +54,13 @@ pub record Fitting (tasks : List Task) : Type 0 where
   pub blockings : All (λ task. task.limit.blocking ≤ 1000000) tasks
   pub holds : (i j : ℕ) → i < j → j < length tasks → (task_at tasks j).limit.hold ≤ (task_at tasks i).limit.blocking
 
--- what the rows and the limits in a table of tasks keep to: there is room for 16 limits, and as tasks they are fitting
+-- that limits for 16 tasks are unlimited behind the first n
+abbrev pub Unused : ℕ → List Limit → Type 0
+Unused n limits = drop n limits ≡ replicate (16 - n) unlimited
+
+-- what the rows and the limits in a table of tasks keep to: there is room for 16 limits, as tasks they are fitting, and behind the last
+-- task there are no limits
 pub record Sides (rows : List Row) (limits : List Limit) : Type 0 where
   pub room : length limits ≡ 16
   pub fitting : Fitting (side_by_side rows limits)
+  pub rest : Unused (length rows) limits

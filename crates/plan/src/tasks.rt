@@ -8,7 +8,7 @@ ghost use Rattle.paced.specs.Loads.{row_load};
 ghost use Rattle.paced.specs.Makes.{asked};
 ghost use Rattle.plan.specs.Limits.{bearable, limit_fault, task_fault, TaskBreaks};
 ghost use Rattle.plan.specs.Needs.{own_need};
-ghost use Rattle.plan.specs.Tasks.{Fitting, limits_of, made, rows_of, side_by_side, task_at, told_of_task};
+ghost use Rattle.plan.specs.Tasks.{Fitting, Unused, limits_of, made, rows_of, side_by_side, task_at, told_of_task};
 
 use paced::row::{Pace, in_range};
 use paced::table::Table;
@@ -175,11 +175,13 @@ impl Tasks {
         self.parts().load(task)
     }
 
-    // Takes the tasks apart: their paced parts, with their levels and places, and their limits, by place.
-    #[tactic(auto, using(crate::proofs::Sides::seen_count, crate::proofs::Sides::seen_fitting))]
+    // Takes the tasks apart: their paced parts, with their levels and places, and their limits, by place, of which those behind the
+    // last task are 0.
+    #[tactic(auto, using(crate::proofs::Sides::seen_count, crate::proofs::Sides::seen_fitting, crate::proofs::Sides::seen_rest))]
     pub fn into_parts(self) -> (Table<16>, [Limit; 16])
         ensures tasks { side_by_side result.0.list result.1 ≡ self }
         ensures count { length result.0.list ≡ length self }
+        ensures rest { Unused (length self) result.1 }
         ensures fitting { Fitting self }
     {
         let limits = self.limits;
