@@ -15,7 +15,7 @@ use source::{Gate, LONGEST, Source};
 use std::marker::Model;
 
 // A gate of one part, seen as its row.
-#[derive(Drop)]
+#[derive(Clone, Copy)]
 pub struct Paced {
     row: Row,
     ghost fit: { Fit row },
@@ -27,6 +27,9 @@ impl Model for Paced {
     ghost Value = { FitRow };
 
     ghost view = { λ p. record { row = p.row; fit = p.fit } };
+
+    // it forgets nothing, so a part can be copied
+    ghost inverse = { λ v. record { row = v.row; fit = v.fit } };
 }
 
 impl Paced {
