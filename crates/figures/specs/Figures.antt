@@ -1,4 +1,4 @@
--- All worked figures of docs/TIMING.md, in nine groups.
+-- The worked figures of docs/TIMING.md, but for its two longer examples, in nine groups.
 use Rattle.figures.specs.Plans.{FirstBound, SecondBound, TooLate, Loads}
 use Rattle.figures.specs.Worked.{EarlyPairs, LatePairs, WithJitter, CostsInTurn, Offers}
 

@@ -3,14 +3,12 @@
 #![tactic(auto)]
 
 ghost use Rattle.figures.specs.Figures.{Figures};
-ghost use Rattle.figures.specs.Premises.{Premises};
+
+pub mod premises;
+
+pub use premises::premises_hold;
 
 // Each figure of the nine groups is what the definitions come to.
 pub fn worked_figures()
     ensures { Figures }
-{}
-
-// For each promise that says "if" or "for every" there is a case in which that holds.
-pub fn premises_hold()
-    ensures { Premises }
 {}

@@ -4,7 +4,7 @@ use Rattle.arrivals.specs.Times.{Explains, Explained}
 use Rattle.plan.specs.Judged.{Raised}
 use Rattle.plan.specs.Tasks.{task_at}
 use Rattle.figures.specs.Plans.{tasks}
-use Rattle.figures.proofs.premises_hold.Goals as goal
+use Rattle.figures.proofs.premises.premises_hold.Goals as goal
 
 raised : Raised (tasks 15) (tasks 20)
 raised = record { rows = refl; blockings = blockings; deadlines = deadlines }
