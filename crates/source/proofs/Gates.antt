@@ -11,13 +11,13 @@ use Rattle.source.specs.Rows.{Kind, Owes, demand_by, allowance_by, row_of, work_
 use Rattle.source.proofs.Parts.{place_of, part_from, offerable_parts, offerable_from, by_part}
 
 module _ {R : Type 0} (kind : Kind R) {Fit : R → Type 0} (owes : Owes kind Fit) where
-  -- n rows that are fit, told by their places
+  -- n rows that are fit, told by their places: whoever keeps rows in another form than a list cites these
 
   module _ (n : ℕ) (row : ℕ → R) (fits : (i : ℕ) → i < n → Fit (row i)) where
     fit : (k : ℕ) → is_part n k ≡ true → Fit (row (k - 1))
     fit k e = fits (k - 1) (place_of n k e).1
 
-    rows_sound : n ≤ 1000 → Sound (record { parts = n; demand = demand_by kind n row }) (allowance_by kind n row)
+    pub rows_sound : n ≤ 1000 → Sound (record { parts = n; demand = demand_by kind n row }) (allowance_by kind n row)
     rows_sound few =
         record {
           few = few;
@@ -35,7 +35,7 @@ module _ {R : Type 0} (kind : Kind R) {Fit : R → Type 0} (owes : Owes kind Fit
         (p.0, p.1, subst (λ x. u ≤ x) (cond-true (is_part n k) (kind.allowance (row (k - 1)) 1) 0 p.0) p.2)
 
     module _ (row' : ℕ → R) where
-      rows_kept : ((i l : ℕ) → i < n → kind.demand (row' i) l ≡ kind.demand (row i) l) → demand_by kind n row' ≡ demand_by kind n row
+      pub rows_kept : ((i l : ℕ) → i < n → kind.demand (row' i) l ≡ kind.demand (row i) l) → demand_by kind n row' ≡ demand_by kind n row
       rows_kept same = fun_ext (λ k. fun_ext (λ l. by_part (λ x y. x ≡ y) n k (kind.demand (row' (k - 1)) l) (kind.demand (row (k - 1)) l) (λ e. same (k - 1) l (place_of n k e).1) refl))
 
       module _ (k u : ℕ) (offered : offerable n (allowance_by kind n row) k u ≡ true) (moved : row' (k - 1) ≡ kind.given (row (k - 1)) u) (others : (j : ℕ) → j < n → (j ≢ k - 1) → row' j ≡ row j) where
@@ -45,10 +45,10 @@ module _ {R : Type 0} (kind : Kind R) {Fit : R → Type 0} (owes : Owes kind Fit
         here : (1 ≤ k) × (k - 1 < n)
         here = place_of n k units.0
 
-        taken_kept : demand_by kind n row' ≡ demand_by kind n row
+        pub taken_kept : demand_by kind n row' ≡ demand_by kind n row
         taken_kept = rows_kept (λ i l h. elim (cases_eq i (k - 1)) [ inl e ↦ subst (λ j. kind.demand (row' j) l ≡ kind.demand (row j) l) (sym e) (ap (λ r. kind.demand r l) moved ∙ owes.given_demand (row (k - 1)) u l) | inr ne ↦ ap (λ r. kind.demand r l) (others i h ne) ])
 
-        rows_taken : Taken (allowance_by kind n row) k u (allowance_by kind n row')
+        pub rows_taken : Taken (allowance_by kind n row) k u (allowance_by kind n row')
         rows_taken = record { within = within; others = rest }
           where
             within : (l : ℕ) → 1 ≤ l → u + allowance_by kind n row' k l ≤ allowance_by kind n row k l
@@ -64,10 +64,10 @@ module _ {R : Type 0} (kind : Kind R) {Fit : R → Type 0} (owes : Owes kind Fit
             rest j l ne = by_part (λ x y. x ≡ y) n j (kind.allowance (row' (j - 1)) l) (kind.allowance (row (j - 1)) l) (λ e. ap (λ r. kind.allowance r l) (others (j - 1) (place_of n j e).1 (apart j ne (place_of n j e).0))) refl
 
       module _ (lowered : (i : ℕ) → i < n → row' i ≡ kind.later (row i)) where
-        ticked_kept : demand_by kind n row' ≡ demand_by kind n row
+        pub ticked_kept : demand_by kind n row' ≡ demand_by kind n row
         ticked_kept = rows_kept (λ i l h. ap (λ r. kind.demand r l) (lowered i h) ∙ owes.later_demand (row i) l)
 
-        rows_ticked : Ticked (allowance_by kind n row) (allowance_by kind n row')
+        pub rows_ticked : Ticked (allowance_by kind n row) (allowance_by kind n row')
         rows_ticked = record { shorter = λ k l. by_part (λ x y. x ≤ y) n k (kind.allowance (row' (k - 1)) l) (kind.allowance (row (k - 1)) (l + 1)) (λ e. subst (λ r. kind.allowance r l ≤ kind.allowance (row (k - 1)) (l + 1)) (sym (lowered (k - 1) (place_of n k e).1)) (owes.later_shorter (row (k - 1)) l (fit k e))) (omega arith) }
 
   -- a list of rows
@@ -141,7 +141,7 @@ module _ {R : Type 0} (kind : Kind R) {Fit : R → Type 0} (owes : Owes kind Fit
 
 -- an offer that is within what its row allows is taken
 module _ {R : Type 0} (kind : Kind R) where
-  offered_by : (n : ℕ) (row : ℕ → R) (k u : ℕ) → 1 ≤ k → k ≤ n → 1 ≤ u → u ≤ kind.allowance (row (k - 1)) 1 → offerable n (allowance_by kind n row) k u ≡ true
+  pub offered_by : (n : ℕ) (row : ℕ → R) (k u : ℕ) → 1 ≤ k → k ≤ n → 1 ≤ u → u ≤ kind.allowance (row (k - 1)) 1 → offerable n (allowance_by kind n row) k u ≡ true
   offered_by n row k u low high some within =
       let part : is_part n k ≡ true = part_from n k low high in
       offerable_from n (allowance_by kind n row) k u part some (subst (λ x. u ≤ x) (sym (cond-true (is_part n k) (kind.allowance (row (k - 1)) 1) 0 part)) within)

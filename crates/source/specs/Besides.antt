@@ -43,7 +43,7 @@ beside_sound v w a b s t =
     right_outside k e h i = grind (arith, nat_tests)
 
 -- what is kept on both sides is kept
-both_kept : (v w v' w' : Work) → v' ≡ v → w' ≡ w → both v' w' ≡ both v w
+pub both_kept : (v w v' w' : Work) → v' ≡ v → w' ≡ w → both v' w' ≡ both v w
 both_kept v w v' w' p q = λ i. both (p i) (q i)
 
 taken_left : (m m' : ℕ) (a a' b b' : ℕ → ℕ → ℕ) (k u : ℕ) → m' ≡ m → b' ≡ b → k ≤ m → Taken a k u a' → Taken (beside m a b) k u (beside m' a' b')
