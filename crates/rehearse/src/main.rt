@@ -109,7 +109,7 @@ impl Rehearsal<'_> {
     // Writes the timeline of the run, with a row for each part of the bank and each task of the plan.
     fn print_timeline(self, rt: &HostRuntime) -> anyhow::Result<()> {
         let Rehearsal { plan, calls } = self;
-        // an open plan does not tell its counts: it is judged for them, and opened again
+        // an open plan does not tell the parts of its bank: it is judged for them, and opened again
         let Parts { bank, tasks, .. } = plan.judge().into_parts();
         let part_count = bank.count();
         let task_count = tasks.count();
