@@ -13,7 +13,7 @@ use Rattle.paced.specs.Tables.{FitRows}
 use Rattle.paced.specs.declared.row.Row.{Row}
 use Rattle.paced.proofs.Makings.{passed, fresh_fit}
 use Rattle.plan.specs.Limits.{bearable, limit_fault, task_fault}
-use Rattle.plan.specs.Tasks.{Task, made, task_at, limits_of, unlimited, side_by_side, AtRest, Fitting, Sides, Unused}
+use Rattle.plan.specs.Tasks.{Task, made, task_at, limits_of, unlimited, side_by_side, AtRest, Fitting, Sides, Stored, Unused}
 use Rattle.plan.proofs.Sides.{seen_count, seen_fitting, seen_rest, sides_more}
 use Rattle.plan.specs.declared.tasks.Limit.{Limit}
 
@@ -111,6 +111,15 @@ module _ (parts : FitRows 16) (limits : List Limit) (sides : Sides parts.list li
       record {
         room = ap length limits_more ∙ length-set limits (length tasks) l ∙ sides.room;
         fitting = subst Fitting (sym grown) (add_fitting tasks a l clean (seen_fitting parts limits sides tasks seen));
+      }
+
+-- the same fields, with the limits behind the last task
+module _ (parts : FitRows 16) (limits : List Limit) (stored : Stored parts.list limits) (tasks : List Task) (seen : side_by_side parts.list limits ≡ tasks) (a : Asked) (l : Limit) (clean : task_fault tasks a l ≡ None)
+    (rows' : List Row) (limits' : List Limit) (rows_more : rows' ≡ parts.list ++ fresh a ∷ []) (limits_more : limits' ≡ set limits (length tasks) l) where
+  pub grown_stored : Stored rows' limits'
+  grown_stored =
+      record {
+        sides = grown_sides parts limits stored.sides tasks seen a l clean rows' limits' rows_more limits_more;
         rest = unused;
       }
     where
@@ -118,7 +127,7 @@ module _ (parts : FitRows 16) (limits : List Limit) (sides : Sides parts.list li
       n = length tasks
 
       long : length rows' ≡ n + 1
-      long = omega (arith, ap length rows_more, length-append parts.list (fresh a ∷ []), seen_count parts limits sides tasks seen)
+      long = omega (arith, ap length rows_more, length-append parts.list (fresh a ∷ []), seen_count parts limits stored.sides tasks seen)
 
       less : 16 - n - 1 ≡ 16 - (n + 1)
       less = omega arith
@@ -128,6 +137,6 @@ module _ (parts : FitRows 16) (limits : List Limit) (sides : Sides parts.list li
           (λ i. drop (long i) (limits_more i))
           ∙ drop-set-lt (n + 1) limits n l (omega arith)
           ∙ sym (drop-drop 1 n limits)
-          ∙ ap (drop 1) (seen_rest parts limits sides tasks seen)
+          ∙ ap (drop 1) (seen_rest parts limits stored tasks seen)
           ∙ drop-replicate 1 (16 - n) unlimited
           ∙ ap (λ k. replicate k unlimited) (less ∙ ap (λ k. 16 - k) (sym long))

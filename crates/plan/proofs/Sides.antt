@@ -10,7 +10,7 @@ use Rattle.paced.specs.Pace.{blank, largest_cost, Fit, paced}
 use Rattle.paced.specs.Rows.{paced_owes}
 use Rattle.paced.specs.Tables.{FitRows, row_at, told_of, work_in, allowances_in}
 use Rattle.paced.specs.declared.row.Row.{Row}
-use Rattle.plan.specs.Tasks.{Task, unlimited, task_at, rows_of, limits_of, side_by_side, Fitting, Sides, Unused}
+use Rattle.plan.specs.Tasks.{Task, unlimited, task_at, rows_of, limits_of, side_by_side, Fitting, Sides, Stored, Unused}
 use Rattle.plan.specs.declared.tasks.Limit.{Limit}
 
 pub rows_sides : (rows : List Row) (limits : List Limit) → length rows ≤ length limits → rows_of (side_by_side rows limits) ≡ rows
@@ -81,9 +81,6 @@ module _ (parts : FitRows 16) (limits : List Limit) (sides : Sides parts.list li
   pub seen_fitting : Fitting tasks
   seen_fitting = subst Fitting seen sides.fitting
 
-  pub seen_rest : Unused (length tasks) limits
-  seen_rest = subst (λ n. Unused n limits) seen_count sides.rest
-
   pub seen_deadline : (i : ℕ) → i < length tasks → (get_or limits i unlimited).deadline ≤ 1000000
   seen_deadline i h =
       let within : (task_at tasks i).limit.deadline + (task_at tasks i).row.jitter ≤ (task_at tasks i).row.period = seen_fitting.deadlines i _ h in
@@ -97,3 +94,8 @@ module _ (parts : FitRows 16) (limits : List Limit) (sides : Sides parts.list li
       cond-true (is_part (length parts.list) (i + 1)) _ _ part
       ∙ ap (λ k. Some (largest_cost (row_at parts.list k))) same
       ∙ ap (λ r. Some (largest_cost r)) (row_in parts limits sides.room tasks seen i h)
+
+-- and, where they are Stored, of the limits behind the last task
+module _ (parts : FitRows 16) (limits : List Limit) (stored : Stored parts.list limits) (tasks : List Task) (seen : side_by_side parts.list limits ≡ tasks) where
+  pub seen_rest : Unused (length tasks) limits
+  seen_rest = subst (λ n. Unused n limits) (seen_count parts limits stored.sides tasks seen) stored.rest

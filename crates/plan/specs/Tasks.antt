@@ -58,9 +58,12 @@ pub record Fitting (tasks : List Task) : Type 0 where
 abbrev pub Unused : ℕ → List Limit → Type 0
 Unused n limits = drop n limits ≡ replicate (16 - n) unlimited
 
--- what the rows and the limits in a table of tasks keep to: there is room for 16 limits, as tasks they are fitting, and behind the last
--- task there are no limits
+-- what the rows and the limits in a table of tasks keep to: there is room for 16 limits, and as tasks they are fitting
 pub record Sides (rows : List Row) (limits : List Limit) : Type 0 where
   pub room : length limits ≡ 16
   pub fitting : Fitting (side_by_side rows limits)
+
+-- what the fields of Tasks keep to: they are Sides, and behind the last task there are no limits
+pub record Stored (rows : List Row) (limits : List Limit) : Type 0 where
+  pub sides : Sides rows limits
   pub rest : Unused (length rows) limits

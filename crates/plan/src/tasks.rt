@@ -37,13 +37,13 @@ pub struct Tasks {
 
 impl Model for Tasks {
     ghost use Rattle.std.specs.Prelude.{List};
-    ghost use Rattle.plan.specs.Tasks.{Task, Sides, side_by_side};
+    ghost use Rattle.plan.specs.Tasks.{Task, Stored, side_by_side};
 
     ghost Value = { List Task };
 
     ghost view = { λ t. side_by_side t.parts.list t.limits };
 
-    ghost invariant = { λ t. Sides t.parts.list t.limits };
+    ghost invariant = { λ t. Stored t.parts.list t.limits };
 }
 
 // What a task needs itself, by its blocking and its largest cost.

@@ -2,7 +2,7 @@ use Rattle.std.proofs.Common.{◌≡◌, ℕ, length, set, Some, None, ap, sym, 
 use Rattle.refusal.specs.Refusals.{refusal_of}
 use Rattle.paced.specs.Makes.{asked, adding}
 use Rattle.plan.specs.Limits.{task_fault}
-use Rattle.plan.proofs.Adding.{part_clean, grown, grown_sides}
+use Rattle.plan.proofs.Adding.{part_clean, grown, grown_stored}
 use Rattle.plan.proofs.Sides.{seen_count}
 use Rattle.plan.proofs.tasks.Tasks.add.Goals as goal
 
@@ -17,7 +17,7 @@ never c =
     let tasks = c.args.self.now in
     let a = asked c.args.pace in
     let fine : task_fault tasks a c.args.limit ≡ None = sym c.fault.ensures.answer ∙ search rules in
-    let count = seen_count s.parts s.limits c.self.invariant tasks c.self.view_is in
+    let count = seen_count s.parts s.limits c.self.invariant.sides tasks c.self.view_is in
     let none : Some c.in_err-add.field-0.0 ≡ None = c.in_err-add.ensures.answer ∙ ap (λ n. refusal_of (adding 16 n a) 0) count ∙ ap (λ f. refusal_of f 0) (part_clean tasks a c.args.limit fine) in
     let z : ◌≡◌ {A = ℕ} 0 1 = cc in
     absurd (omega arith)
@@ -34,9 +34,9 @@ limits c = c.with_limit-self-inside.ensures ∙ ap (λ n. set c.self.inside.limi
 pub invariant_of-self-2 : goal.invariant_of-self-2
 invariant_of-self-2 c =
     let s = c.self.inside in
-    grown_sides s.parts s.limits c.self.invariant c.args.self.now c.self.view_is (asked c.args.pace) c.args.limit (clean c) c.add.new.self.list c.with_limit-self-inside.result c.in_ok-add.ensures.added (limits c)
+    grown_stored s.parts s.limits c.self.invariant c.args.self.now c.self.view_is (asked c.args.pace) c.args.limit (clean c) c.add.new.self.list c.with_limit-self-inside.result c.in_ok-add.ensures.added (limits c)
 
 pub returns-clause-added : goal.returns-clause-added
 returns-clause-added c =
     let s = c.self.inside in
-    grown s.parts s.limits c.self.invariant c.args.self.now c.self.view_is (asked c.args.pace) c.args.limit (clean c) c.add.new.self.list c.with_limit-self-inside.result c.in_ok-add.ensures.added (limits c)
+    grown s.parts s.limits c.self.invariant.sides c.args.self.now c.self.view_is (asked c.args.pace) c.args.limit (clean c) c.add.new.self.list c.with_limit-self-inside.result c.in_ok-add.ensures.added (limits c)
